@@ -1,0 +1,3 @@
+mod Majority
+mod Schedule
+mod Compression

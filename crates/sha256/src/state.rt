@@ -1,0 +1,12 @@
+// The eight 32-bit words that the hash carries from block to block, and the working variables of a block's rounds.
+#[derive(Clone, Copy)]
+pub struct State {
+    pub a: u32,
+    pub b: u32,
+    pub c: u32,
+    pub d: u32,
+    pub e: u32,
+    pub f: u32,
+    pub g: u32,
+    pub h: u32,
+}
