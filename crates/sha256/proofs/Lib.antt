@@ -1,3 +1,5 @@
 mod Majority
 mod Schedule
 mod Compression
+mod Hash
+mod Padding

@@ -16,14 +16,18 @@ zeros total = (119 - total % 64) % 64
 abbrev pub nulls : ℕ → List ℕ
 nulls n = replicate n 0
 
--- what is put behind a message of `total` bytes: the bit 1, zero bits, and its length in bits, modulo 2^64
-unfoldable pub suffix : ℕ → List ℕ
-suffix total = 0x80 ∷ (nulls (zeros total) ++ bytes8 (8 * total % 2 ^ 64))
+-- the bit 1, z zero bytes, and the length in bits
+unfoldable pub padding : ℕ → ℕ → List ℕ
+padding z bits = 0x80 ∷ (nulls z ++ bytes8 bits)
 
-unfoldable pub padded : List ℕ → List ℕ
+-- what is put behind a message of `total` bytes; its length in bits is taken modulo 2^64
+abbrev pub suffix : ℕ → List ℕ
+suffix total = padding (zeros total) (8 * total % 2 ^ 64)
+
+abbrev pub padded : List ℕ → List ℕ
 padded m = m ++ suffix (length m)
 
--- how many blocks of 64 bytes there are in m
+-- how many whole blocks of 64 bytes there are in m
 abbrev pub blocks : List ℕ → ℕ
 blocks m = length m / 64
 

@@ -2,6 +2,9 @@
 mod block;
 mod constants;
 mod functions;
+mod message;
 mod state;
+mod tail;
 
+pub use message::resume;
 pub use state::State;
