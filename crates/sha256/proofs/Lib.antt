@@ -3,3 +3,5 @@ mod Schedule
 mod Compression
 mod Hash
 mod Padding
+mod Text
+mod Digests

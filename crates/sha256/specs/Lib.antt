@@ -5,3 +5,4 @@ pub mod Schedule
 pub mod Compression
 pub mod Padding
 pub mod Hash
+pub mod Text

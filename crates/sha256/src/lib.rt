@@ -1,10 +1,25 @@
 // SHA-256 of FIPS 180-4.
+ghost use mathlib.Core.Path.{_≡_};
+ghost use Rattle.sha256.specs.Text.{digest-of};
 mod block;
+mod bytes;
 mod constants;
 mod functions;
 mod message;
 mod state;
 mod tail;
+mod value;
 
+pub use bytes::DigestDisplay;
 pub use message::resume;
 pub use state::State;
+pub use value::Digest;
+pub use value::DigestEq;
+pub use value::DigestPartialEq;
+
+// The SHA-256 of some pages.
+pub fn digest(pages: &[u8]) -> Digest
+    ensures { λ r. ⌜ r ≡ digest-of (now (pages .entry)) ⌝ }
+{
+    resume(State::initial(), 0, pages).digest()
+}

@@ -1,9 +1,12 @@
 // Whole messages: the blocks where they lie, then the padded end.
 ghost use mathlib.Core.Path.{_≡_};
-ghost use Rattle.sha256.specs.Hash.{folded, resumed};
+ghost use Prim.Native.Nat.{_+_, _*_, _^_};
+ghost use Rattle.sha256.specs.Constants.{initial};
+ghost use Rattle.sha256.specs.Hash.{folded, resumed, paired};
 use crate::block::compress;
 use crate::state::State;
 use crate::tail::finish;
+use crate::value::Digest;
 
 // Hashes the whole blocks of a message.
 fn absorb(start: State, pages: &[u8]) -> State
@@ -23,4 +26,37 @@ pub fn resume(start: State, before: u64, rest: &[u8]) -> State
     let s = absorb(start, rest);
     let bits = before.wrapping_mul(512).wrapping_add((rest.len() as u64).wrapping_mul(8));
     finish(s, &rest[rest.len() / 64 * 64..], bits)
+}
+
+impl State {
+    // The hash value before the first block.
+    pub fn initial() -> State
+        ensures { λ r. ⌜ r ≡ initial ⌝ }
+    {
+        State {
+            a: 0x6a09_e667,
+            b: 0xbb67_ae85,
+            c: 0x3c6e_f372,
+            d: 0xa54f_f53a,
+            e: 0x510e_527f,
+            f: 0x9b05_688c,
+            g: 0x1f83_d9ab,
+            h: 0x5be0_cd19,
+        }
+    }
+
+    // The digest that the hash value after the last block stands for.
+    pub fn digest(self) -> Digest
+        ensures { λ r. ⌜ r ≡ record { words = paired self } ⌝ }
+    {
+        Digest {
+            words: [pair(self.a, self.b), pair(self.c, self.d), pair(self.e, self.f), pair(self.g, self.h)],
+        }
+    }
+}
+
+fn pair(high: u32, low: u32) -> u64
+    ensures { λ r. ⌜ r ≡ high * 2 ^ 32 + low ⌝ }
+{
+    ((high as u64) << 32) + low as u64
 }

@@ -1,0 +1,56 @@
+// A digest's 32 bytes, and the text that is printed of it.
+ghost use mathlib.Core.Path.{_≡_};
+ghost use Prim.Native.Nat.{_<_};
+ghost use Rattle.sha256.specs.Text.{hex-digit, digest-bytes, digest-text};
+ghost use Rattle.std.specs.declared.option.Option.the-variants.{Some};
+use crate::value::Digest;
+use std::fmt;
+
+// A hexadecimal digit, in lower case.
+fn digit(n: u8) -> u8
+    requires { ⌜ n < 16 ⌝ }
+    ensures { λ r. ⌜ r ≡ hex-digit n ⌝ }
+{
+    if n < 10 { b'0' + n } else { b'a' + (n - 10) }
+}
+
+impl Digest {
+    // The 32 bytes, each word's most significant first.
+    pub fn bytes(self) -> [u8; 32]
+        ensures { λ r. ⌜ r ≡ digest-bytes self ⌝ }
+    {
+        let [a, b, c, d] = self.words;
+        let [a0, a1, a2, a3, a4, a5, a6, a7] = a.to_be_bytes();
+        let [b0, b1, b2, b3, b4, b5, b6, b7] = b.to_be_bytes();
+        let [c0, c1, c2, c3, c4, c5, c6, c7] = c.to_be_bytes();
+        let [d0, d1, d2, d3, d4, d5, d6, d7] = d.to_be_bytes();
+        [
+            a0, a1, a2, a3, a4, a5, a6, a7, b0, b1, b2, b3, b4, b5, b6, b7, c0, c1, c2, c3, c4, c5, c6, c7, d0, d1, d2, d3,
+            d4, d5, d6, d7,
+        ]
+    }
+
+    // The 64 lower-case hexadecimal digits.
+    fn text(self) -> [u8; 64]
+        ensures { λ r. ⌜ r ≡ digest-text self ⌝ }
+    {
+        let bytes = self.bytes();
+        let mut text = [0; 64];
+        for i in 0..32 {
+            text[2 * i] = digit(bytes[i] / 16);
+            text[2 * i + 1] = digit(bytes[i] % 16);
+        }
+        text
+    }
+}
+
+pub impl fmt::Display for Digest as DigestDisplay {
+    ghost shown = { λ d. Some (digest-text d) };
+
+    fn fmt<W: fmt::Write>(&self, f: &mut fmt::Formatter<W>) -> fmt::Result {
+        match std::str::from_utf8(&self.text()) {
+            Ok(text) => f.write_str(text),
+            Err(_) => Err(fmt::Error),
+        }
+    }
+}
