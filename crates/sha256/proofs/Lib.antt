@@ -5,3 +5,4 @@ mod Hash
 mod Padding
 mod Text
 mod Digests
+mod Examples

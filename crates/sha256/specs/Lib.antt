@@ -6,3 +6,4 @@ pub mod Compression
 pub mod Padding
 pub mod Hash
 pub mod Text
+pub mod Examples

@@ -1,5 +1,6 @@
 // SHA-256 of FIPS 180-4.
 ghost use mathlib.Core.Path.{_≡_};
+ghost use Rattle.sha256.specs.Examples.{Examples};
 ghost use Rattle.sha256.specs.Text.{digest-of};
 mod block;
 mod bytes;
@@ -11,7 +12,6 @@ mod tail;
 mod value;
 
 pub use bytes::DigestDisplay;
-pub use message::resume;
 pub use state::State;
 pub use value::Digest;
 pub use value::DigestEq;
@@ -21,5 +21,11 @@ pub use value::DigestPartialEq;
 pub fn digest(pages: &[u8]) -> Digest
     ensures { λ r. ⌜ r ≡ digest-of (now (pages .entry)) ⌝ }
 {
-    resume(State::initial(), 0, pages).digest()
+    State::initial().finish(0, pages)
+}
+
+// The definitions give the published digests of the empty message, of "abc" and of a message of two blocks.
+pub fn published_examples()
+    ensures { λ _. ⌜ Examples ⌝ }
+{
 }

@@ -2,10 +2,11 @@
 ghost use mathlib.Core.Path.{_≡_};
 ghost use Prim.Native.Nat.{_+_, _*_, _^_};
 ghost use Rattle.sha256.specs.Constants.{initial};
+ghost use Rattle.sha256.specs.Compression.{compressed};
 ghost use Rattle.sha256.specs.Hash.{folded, resumed, paired};
 use crate::block::compress;
 use crate::state::State;
-use crate::tail::finish;
+use crate::tail::end;
 use crate::value::Digest;
 
 // Hashes the whole blocks of a message.
@@ -20,12 +21,18 @@ fn absorb(start: State, pages: &[u8]) -> State
 }
 
 // Hashes the rest of a message of which `before` blocks are hashed already, into `start`.
-pub fn resume(start: State, before: u64, rest: &[u8]) -> State
+fn resume(start: State, before: u64, rest: &[u8]) -> State
     ensures { λ r. ⌜ r ≡ resumed start before (now (rest .entry)) ⌝ }
 {
     let s = absorb(start, rest);
     let bits = before.wrapping_mul(512).wrapping_add((rest.len() as u64).wrapping_mul(8));
-    finish(s, &rest[rest.len() / 64 * 64..], bits)
+    end(s, &rest[rest.len() / 64 * 64..], bits)
+}
+
+fn pair(high: u32, low: u32) -> u64
+    ensures { λ r. ⌜ r ≡ high * 2 ^ 32 + low ⌝ }
+{
+    ((high as u64) << 32) + low as u64
 }
 
 impl State {
@@ -45,18 +52,20 @@ impl State {
         }
     }
 
-    // The digest that the hash value after the last block stands for.
-    pub fn digest(self) -> Digest
-        ensures { λ r. ⌜ r ≡ record { words = paired self } ⌝ }
+    // The hash value after one block more.
+    pub fn after(self, block: &[u8; 64]) -> State
+        ensures { λ r. ⌜ r ≡ compressed self (now (block .entry)) ⌝ }
     {
+        compress(self, block)
+    }
+
+    // The digest of a message of which `before` blocks are hashed already, into `self`, and `rest` is left.
+    pub fn finish(self, before: u64, rest: &[u8]) -> Digest
+        ensures { λ r. ⌜ r ≡ record { words = paired (resumed self before (now (rest .entry))) } ⌝ }
+    {
+        let s = resume(self, before, rest);
         Digest {
-            words: [pair(self.a, self.b), pair(self.c, self.d), pair(self.e, self.f), pair(self.g, self.h)],
+            words: [pair(s.a, s.b), pair(s.c, s.d), pair(s.e, s.f), pair(s.g, s.h)],
         }
     }
-}
-
-fn pair(high: u32, low: u32) -> u64
-    ensures { λ r. ⌜ r ≡ high * 2 ^ 32 + low ⌝ }
-{
-    ((high as u64) << 32) + low as u64
 }

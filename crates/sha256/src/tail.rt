@@ -25,16 +25,16 @@ fn pad(rest: &[u8], bits: u64) -> [u8; 128]
     ensures one { λ r. ⌜ (length (now (rest .entry)) < 56 → take 64 r ≡ now (rest .entry) ++ padding (zeros (length (now (rest .entry)))) bits) ⌝ }
     ensures two { λ r. ⌜ (56 ≤ length (now (rest .entry)) → take 128 r ≡ now (rest .entry) ++ padding (zeros (length (now (rest .entry)))) bits) ⌝ }
 {
-    let end = if rest.len() < ROOM { ROOM } else { ROOM + 64 };
+    let length_at = if rest.len() < ROOM { ROOM } else { ROOM + 64 };
     let mut tail = [0; 128];
     put(&mut tail, 0, rest);
     tail[rest.len()] = 0x80;
-    put(&mut tail, end, &bits.to_be_bytes());
+    put(&mut tail, length_at, &bits.to_be_bytes());
     tail
 }
 
 // Hashes the end of a message.
-pub fn finish(s: State, rest: &[u8], bits: u64) -> State
+pub fn end(s: State, rest: &[u8], bits: u64) -> State
     requires { ⌜ length (now rest) < 64 ⌝ }
     ensures { λ r. ⌜ r ≡ folded s (now (rest .entry) ++ padding (zeros (length (now (rest .entry)))) bits) ⌝ }
 {

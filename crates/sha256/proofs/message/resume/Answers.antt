@@ -10,7 +10,7 @@ pub returns : need.returns
 returns c =
     let m = c .args .rest .now in
     let place : length m / 64 * 64 ≡ 64 * (length m / 64) = omega arith in
-    resumed-by (c .args .start) (c .absorb-s .result) (c .finish .result) (c .args .before) _ m _ (c .absorb-s .ensures)
+    resumed-by (c .args .start) (c .absorb-s .result) (c .end .result) (c .args .before) _ m _ (c .absorb-s .ensures)
     (take-rest m (length m / 64 * 64) ∙ ap (λ (k : ℕ). drop k m) place)
     (omega arith)
-    (c .finish .ensures)
+    (c .end .ensures)

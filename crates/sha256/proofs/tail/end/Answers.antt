@@ -5,7 +5,7 @@ use lib.ListN.{length, length-append}
 use Rattle.sha256.specs.Padding.{padding, zeros}
 use Rattle.sha256.proofs.Padding.{padding-length}
 use Rattle.sha256.proofs.Hash.{folded-one, folded-two}
-use Rattle.sha256.proofs.tail.finish.Needs as need
+use Rattle.sha256.proofs.tail.end.Needs as need
 
 pub returns-then-rest-lt-ROOM : need.returns-then-rest-lt-ROOM
 returns-then-rest-lt-ROOM c =
