@@ -2,7 +2,7 @@ mod Majority
 mod Schedule
 mod Compression
 mod Hash
-mod Padding
+pub mod Padding
 mod Text
 mod Digests
 mod Examples

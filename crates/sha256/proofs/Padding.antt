@@ -1,12 +1,12 @@
 -- The padded end of a message, as it is written into a buffer of zeros.
 use mathlib.Core.Path.{_≡_, sym, ap, ap₂, _∙_}
 use mathlib.Core.List.{List, [], _∷_, _++_}
-use Prim.Native.Nat.{ℕ, suc, _+_, _-_, _<_}
+use Prim.Native.Nat.{ℕ, suc, _+_, _-_, _/_, _<_}
 use native.Mathlib.Omega.{arith}
 use lib.ListN.{length, take, drop, set, length-append, length-replicate}
 use lib.Seq.{paste}
 use Rattle.std.proofs.shelf.Lists.{append-assoc, take-at, drop-at, drop-drop, take-all, set-at, replicate-append-replicate}
-use Rattle.sha256.specs.Padding.{nulls, zeros, padding, bytes8}
+use Rattle.sha256.specs.Padding.{nulls, zeros, padding, padded, blocks, bytes8}
 
 nulls-length : (n : ℕ) → length (nulls n) ≡ n
 nulls-length n = length-replicate n 0
@@ -72,3 +72,7 @@ padded-end rest first second last bits n end long short place e f g =
 pub padding-length : (z bits : ℕ) → length (padding z bits) ≡ z + 9
 unfolding padding
 padding-length z bits = ap suc (length-append (nulls z) (bytes8 bits)) ∙ omega (arith, nulls-length z)
+
+-- how many blocks a padded message has
+pub padded-blocks : (m : List ℕ) → blocks (padded m) ≡ (length m + 8) / 64 + 1
+padded-blocks m = simp (length-append, padding-length) (omega arith)

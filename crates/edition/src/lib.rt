@@ -1,0 +1,51 @@
+// An edition's pages: their bound, their digest, and a report of both.
+ghost use mathlib.Core.Path.{_≡_};
+ghost use lib.ListN.{length};
+ghost use Rattle.edition.specs.Pages.{admitted};
+ghost use Rattle.edition.specs.Reports.{reported, report-text};
+ghost use Rattle.std.specs.declared.option.Option.the-variants.{Some};
+mod report;
+
+use refusal::Refusal;
+use refusal::Refused;
+use refusal::RefusedFromRefusal;
+use sha256::DigestDisplay;
+use sha256::digest;
+use std::fmt;
+
+pub use report::Report;
+
+// The most bytes that an edition's pages may have.
+pub const MOST_BYTES: usize = 16_777_216;
+
+// Whether pages of a length are within bounds.
+pub fn admit(length: usize) -> Result<(), Refusal>
+    ensures { λ r. ⌜ r ≡ admitted length ⌝ }
+{
+    if length <= MOST_BYTES { Ok(()) } else { Err(Refusal::PagesTooLong) }
+}
+
+// The report of some pages, or the refusal of pages out of bounds.
+pub fn report_on(pages: &[u8]) -> Result<Report, Refused>
+    ensures { λ r. ⌜ r ≡ reported (now (pages .entry)) ⌝ }
+{
+    let bytes = pages.len();
+    admit(bytes)?;
+    Ok(Report {
+        bytes,
+        blocks: (bytes + 8) / 64 + 1,
+        digest: digest(pages),
+    })
+}
+
+// A line each: bytes, blocks, digest.
+pub impl fmt::Display for Report as ReportDisplay {
+    ghost shown = { λ x. Some (report-text x) };
+
+    fn fmt<W: fmt::Write>(&self, f: &mut fmt::Formatter<W>) -> fmt::Result {
+        let bytes = self.bytes;
+        let blocks = self.blocks;
+        let digest = self.digest;
+        write!(f, "bytes {bytes}\nblocks {blocks}\ndigest {digest}")
+    }
+}
