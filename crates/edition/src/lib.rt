@@ -1,4 +1,4 @@
-// An edition's pages: their bound, their digest, and a report of both.
+// What an edition is: its number, its pages with their bound, and a report of their digest.
 ghost use mathlib.Core.Path.{_≡_};
 ghost use lib.ListN.{length};
 ghost use Rattle.edition.specs.Pages.{admitted};
@@ -14,6 +14,9 @@ use sha256::digest;
 use std::fmt;
 
 pub use report::Report;
+
+// An edition's number, from 1 on; 0 stands for none. The one place that names its width.
+pub type Number = u16;
 
 // The most bytes that an edition's pages may have.
 pub const MOST_BYTES: usize = 16_777_216;

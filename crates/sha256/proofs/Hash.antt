@@ -1,12 +1,12 @@
 -- Laws of the fold over blocks: one block more, and a message in two parts.
 use mathlib.Core.Path.{_≡_, refl, sym, ap, ap₂, _∙_}
-use mathlib.Core.List.{List, _++_}
+use mathlib.Core.List.{List, [], _++_}
 use Prim.Native.Nat.{ℕ, zero, suc, _+_, _*_, _/_, _%_, _^_, _≤_}
 use native.Mathlib.Nat.{zero-add, add-zero, add-suc}
 use native.Mathlib.Numerals.{add-one}
 use native.Mathlib.Omega.{arith}
 use lib.ListN.{length, take, drop, length-append, length-drop}
-use Rattle.std.proofs.shelf.Lists.{take-append-le, drop-append-le, drop-drop, take-all, take-take, drop-take}
+use Rattle.std.proofs.shelf.Lists.{append-assoc, take-append-le, drop-append-le, drop-drop, drop-all, take-all, take-take, drop-take}
 use Rattle.sha256.specs.declared.state.State.{State}
 use Rattle.sha256.specs.Constants.{initial}
 use Rattle.sha256.specs.Compression.{compressed}
@@ -90,3 +90,16 @@ resumed-by start mid r before bits m rest middle left total end =
 pub sha256-resumed : (m : List ℕ) → resumed initial 0 m ≡ sha256 m
 unfolding resumed sha256
 sha256-resumed m = ap (λ (total : ℕ). folded initial (m ++ suffix total)) (zero-add (length m))
+
+-- a message that begins with a block which is hashed already
+pub sha256-after : (b m : List ℕ) → length b ≡ 64 → resumed (compressed initial b) 1 m ≡ sha256 (b ++ m)
+unfolding resumed sha256
+sha256-after b m long =
+    let total : 64 * 1 + length m ≡ length (b ++ m) = simp length-append (omega arith) in
+    let end = suffix (length (b ++ m)) in
+    let block-hashed : compressed initial b ≡ folded initial b = folded-one initial (compressed initial b) b b long (take-all 64 b (omega arith)) (ap (compressed initial) (sym (take-all 64 b (omega arith)))) in
+    let spent : drop (64 * blocks b) b ≡ [] = drop-all (64 * blocks b) b (omega arith) in
+    ap₂ (λ (s : State) (n : ℕ). folded s (m ++ suffix n)) block-hashed total
+    ∙ ap (λ (v : List ℕ). folded (folded initial b) (v ++ (m ++ end))) (sym spent)
+    ∙ sym (folded-append initial b (m ++ end))
+    ∙ ap (folded initial) (sym (append-assoc b m end))

@@ -1,7 +1,7 @@
 mod Majority
 mod Schedule
 mod Compression
-mod Hash
+pub mod Hash
 pub mod Padding
 mod Text
 mod Digests
