@@ -10,7 +10,9 @@ use std::io::Read;
 // One byte more than the bound is read, so that pages that are too long are seen to be, and no more.
 fn run(rt: &LibcRuntime) -> Result<(), AnyError> {
     let mut pages = Vec::new(rt.alloc());
-    rt.stdin().take(MOST_BYTES as u64 + 1).read_to_end(&mut pages)?;
+    rt.stdin()
+        .take(MOST_BYTES as u64 + 1)
+        .read_to_end(&mut pages)?;
     match report_on(pages.as_slice()) {
         Ok(report) => println!(rt, "{report}")?,
         Err(refused) => {

@@ -4,16 +4,16 @@ ghost use lib.ListN.{length};
 ghost use Rattle.edition.specs.Pages.{admitted};
 ghost use Rattle.edition.specs.Reports.{reported, report-text};
 ghost use Rattle.std.specs.declared.option.Option.the-variants.{Some};
+
 mod report;
 
 use refusal::Refusal;
 use refusal::Refused;
 use refusal::RefusedFromRefusal;
+pub use report::Report;
 use sha256::DigestDisplay;
 use sha256::digest;
 use std::fmt;
-
-pub use report::Report;
 
 // An edition's number, from 1 on; 0 stands for none. The one place that names its width.
 pub type Number = u16;
@@ -25,7 +25,11 @@ pub const MOST_BYTES: usize = 16_777_216;
 pub fn admit(length: usize) -> Result<(), Refusal>
     ensures { λ r. ⌜ r ≡ admitted length ⌝ }
 {
-    if length <= MOST_BYTES { Ok(()) } else { Err(Refusal::PagesTooLong) }
+    if length <= MOST_BYTES {
+        Ok(())
+    } else {
+        Err(Refusal::PagesTooLong)
+    }
 }
 
 // The report of some pages, or the refusal of pages out of bounds.

@@ -4,5 +4,5 @@ mod Compression
 pub mod Hash
 pub mod Padding
 mod Text
-mod Digests
+pub mod Digests
 mod Examples

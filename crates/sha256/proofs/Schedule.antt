@@ -16,7 +16,7 @@ words-none block = refl
 
 pub words-more : (n : ℕ) (block : List ℕ) → words (n + 1) block ≡ words n block ++ (word block n ∷ [])
 unfolding words
-words-more n block = rw add-one
+words-more n block = ap (λ (k : ℕ). words k block) (add-one n)
 
 pub words-set : (w block : List ℕ) (n : ℕ) → n < length w → take n w ≡ words n block → take (n + 1) (set w n (word block n)) ≡ words (n + 1) block
 words-set w block n h e = take-more-set w n (word block n) h ∙ ap (λ (v : List ℕ). v ++ (word block n ∷ [])) e ∙ sym (words-more n block)

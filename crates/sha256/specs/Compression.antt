@@ -20,14 +20,14 @@ temporary2 s = plus (Σ0 (s .a)) (maj (s .a) (s .b) (s .c))
 unfoldable pub round : State → ℕ → ℕ → State
 round s k w =
     record {
-        a = plus (temporary1 s k w) (temporary2 s);
-        b = s .a;
-        c = s .b;
-        d = s .c;
-        e = plus (s .d) (temporary1 s k w);
-        f = s .e;
-        g = s .f;
-        h = s .g
+      a = plus (temporary1 s k w) (temporary2 s);
+      b = s .a;
+      c = s .b;
+      d = s .c;
+      e = plus (s .d) (temporary1 s k w);
+      f = s .e;
+      g = s .f;
+      h = s .g;
     }
 
 -- the working variables after the first n rounds over the schedule w
@@ -39,14 +39,14 @@ rounds (suc n) s w = round (rounds n s w) (getD constants n 0) (getD w n 0)
 unfoldable pub added : State → State → State
 added s v =
     record {
-        a = plus (s .a) (v .a);
-        b = plus (s .b) (v .b);
-        c = plus (s .c) (v .c);
-        d = plus (s .d) (v .d);
-        e = plus (s .e) (v .e);
-        f = plus (s .f) (v .f);
-        g = plus (s .g) (v .g);
-        h = plus (s .h) (v .h)
+      a = plus (s .a) (v .a);
+      b = plus (s .b) (v .b);
+      c = plus (s .c) (v .c);
+      d = plus (s .d) (v .d);
+      e = plus (s .e) (v .e);
+      f = plus (s .f) (v .f);
+      g = plus (s .g) (v .g);
+      h = plus (s .h) (v .h);
     }
 
 -- the hash value after a block of 64 bytes

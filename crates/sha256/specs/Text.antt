@@ -13,7 +13,7 @@ abbrev pub digest-of : List ℕ → Digest
 digest-of m = record { words = paired (sha256 m) }
 
 -- its 32 bytes: the eight of each word in turn
-abbrev pub digest-bytes : Digest → List ℕ
+unfoldable pub digest-bytes : Digest → List ℕ
 digest-bytes d =
     bytes8 (getD (d .words) 0 0) ++ bytes8 (getD (d .words) 1 0) ++ bytes8 (getD (d .words) 2 0) ++ bytes8 (getD (d .words) 3 0)
 

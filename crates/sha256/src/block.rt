@@ -36,13 +36,19 @@ fn ahead(w: &mut [u32; 64], t: usize)
     ensures { λ _. ⌜ now (w .exit) ≡ set (now (w .entry)) (t + 16) (next (now (w .entry)) t) ⌝ }
 {
     let recent = lower_sigma1(w[t + 14]).wrapping_add(w[t + 9]);
-    w[t + 16] = recent.wrapping_add(lower_sigma0(w[t + 1])).wrapping_add(w[t]);
+    w[t + 16] = recent
+        .wrapping_add(lower_sigma0(w[t + 1]))
+        .wrapping_add(w[t]);
 }
 
 fn step(s: State, k: u32, w: u32) -> State
     ensures { λ r. ⌜ r ≡ round s k w ⌝ }
 {
-    let t1 = s.h.wrapping_add(upper_sigma1(s.e)).wrapping_add(choose(s.e, s.f, s.g)).wrapping_add(k).wrapping_add(w);
+    let t1 = s.h
+        .wrapping_add(upper_sigma1(s.e))
+        .wrapping_add(choose(s.e, s.f, s.g))
+        .wrapping_add(k)
+        .wrapping_add(w);
     let t2 = upper_sigma0(s.a).wrapping_add(majority(s.a, s.b, s.c));
     State {
         a: t1.wrapping_add(t2),
@@ -95,7 +101,7 @@ fn late_rounds(early: State, w: &[u32; 64]) -> State
     s
 }
 
-pub fn compress(start: State, block: &[u8]) -> State
+pub(crate) fn compress(start: State, block: &[u8]) -> State
     requires { ⌜ length (now block) ≡ 64 ⌝ }
     ensures { λ r. ⌜ r ≡ compressed start (now (block .entry)) ⌝ }
 {

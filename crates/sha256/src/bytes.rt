@@ -3,6 +3,7 @@ ghost use mathlib.Core.Path.{_≡_};
 ghost use Prim.Native.Nat.{_<_};
 ghost use Rattle.sha256.specs.Text.{hex-digit, digest-bytes, digest-text};
 ghost use Rattle.std.specs.declared.option.Option.the-variants.{Some};
+use crate::buffer::put;
 use crate::value::Digest;
 use std::fmt;
 
@@ -20,14 +21,12 @@ impl Digest {
         ensures { λ r. ⌜ r ≡ digest-bytes self ⌝ }
     {
         let [a, b, c, d] = self.words;
-        let [a0, a1, a2, a3, a4, a5, a6, a7] = a.to_be_bytes();
-        let [b0, b1, b2, b3, b4, b5, b6, b7] = b.to_be_bytes();
-        let [c0, c1, c2, c3, c4, c5, c6, c7] = c.to_be_bytes();
-        let [d0, d1, d2, d3, d4, d5, d6, d7] = d.to_be_bytes();
-        [
-            a0, a1, a2, a3, a4, a5, a6, a7, b0, b1, b2, b3, b4, b5, b6, b7, c0, c1, c2, c3, c4, c5, c6, c7, d0, d1, d2, d3,
-            d4, d5, d6, d7,
-        ]
+        let mut bytes = [0; 32];
+        put(&mut bytes, 0, &a.to_be_bytes());
+        put(&mut bytes, 8, &b.to_be_bytes());
+        put(&mut bytes, 16, &c.to_be_bytes());
+        put(&mut bytes, 24, &d.to_be_bytes());
+        bytes
     }
 
     // The 64 lower-case hexadecimal digits.

@@ -2,7 +2,9 @@
 ghost use mathlib.Core.Path.{_≡_};
 ghost use Rattle.sha256.specs.Examples.{Examples};
 ghost use Rattle.sha256.specs.Text.{digest-of};
+
 mod block;
+mod buffer;
 mod bytes;
 mod constants;
 mod functions;
@@ -27,5 +29,4 @@ pub fn digest(pages: &[u8]) -> Digest
 // The definitions give the published digests of the empty message, of "abc" and of a message of two blocks.
 pub fn published_examples()
     ensures { λ _. ⌜ Examples ⌝ }
-{
-}
+{}

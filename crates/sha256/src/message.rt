@@ -25,7 +25,9 @@ fn resume(start: State, before: u64, rest: &[u8]) -> State
     ensures { λ r. ⌜ r ≡ resumed start before (now (rest .entry)) ⌝ }
 {
     let s = absorb(start, rest);
-    let bits = before.wrapping_mul(512).wrapping_add((rest.len() as u64).wrapping_mul(8));
+    let bits = before
+        .wrapping_mul(512)
+        .wrapping_add((rest.len() as u64).wrapping_mul(8));
     end(s, &rest[rest.len() / 64 * 64..], bits)
 }
 
@@ -65,7 +67,12 @@ impl State {
     {
         let s = resume(self, before, rest);
         Digest {
-            words: [pair(s.a, s.b), pair(s.c, s.d), pair(s.e, s.f), pair(s.g, s.h)],
+            words: [
+                pair(s.a, s.b),
+                pair(s.c, s.d),
+                pair(s.e, s.f),
+                pair(s.g, s.h),
+            ],
         }
     }
 }

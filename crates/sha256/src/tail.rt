@@ -3,21 +3,14 @@ ghost use mathlib.Core.Path.{_≡_};
 ghost use mathlib.Core.List.{_++_};
 ghost use Prim.Native.Nat.{_+_, _<_, _≤_};
 ghost use lib.ListN.{length, take};
-ghost use lib.Seq.{paste};
 ghost use Rattle.sha256.specs.Padding.{padding, zeros};
 ghost use Rattle.sha256.specs.Hash.{folded};
 use crate::block::compress;
+use crate::buffer::put;
 use crate::state::State;
 
 // Where the length stands in a block.
 const ROOM: usize = 56;
-
-fn put(to: &mut [u8], at: usize, bytes: &[u8])
-    requires { ⌜ at + length (now bytes) ≤ length (now to) ⌝ }
-    ensures { λ _. ⌜ now (to .exit) ≡ paste (now (to .entry)) at (now (bytes .entry)) (length (now (bytes .entry))) ⌝ }
-{
-    to[at..at + bytes.len()].copy_from_slice(bytes);
-}
 
 // The padded end, in the first block where `rest` leaves room for the length, else in both.
 fn pad(rest: &[u8], bits: u64) -> [u8; 128]
@@ -34,11 +27,15 @@ fn pad(rest: &[u8], bits: u64) -> [u8; 128]
 }
 
 // Hashes the end of a message.
-pub fn end(s: State, rest: &[u8], bits: u64) -> State
+pub(crate) fn end(s: State, rest: &[u8], bits: u64) -> State
     requires { ⌜ length (now rest) < 64 ⌝ }
     ensures { λ r. ⌜ r ≡ folded s (now (rest .entry) ++ padding (zeros (length (now (rest .entry)))) bits) ⌝ }
 {
     let tail = pad(rest, bits);
     let first = compress(s, &tail[0..64]);
-    if rest.len() < ROOM { first } else { compress(first, &tail[64..128]) }
+    if rest.len() < ROOM {
+        first
+    } else {
+        compress(first, &tail[64..128])
+    }
 }

@@ -22,12 +22,13 @@ loop-t-again c =
     let m = take 16 (c .args .w .now) in
     let few : t < 48 = omega arith in
     let within : t + 16 < length w = omega arith in
-    let sixteen : length m ≡ 16 = length-take-le 16 (c .args .w .now) (omega arith) in
-    (c .ahead .array-long,
-     ap (take (t + 1 + 16)) (c .ahead .ensures) ∙ scheduled-set w m t within (c .loop-t .inv .1),
-     round-again t _ (c .loop-t .s) (c .args .start) (c .step-s .result) (scheduled 48 m) (c .loop-t .inv .2)
-     (ap (λ (v : List ℕ). getD v t 0) (c .ahead .ensures) ∙ word-kept w m t _ few sixteen (c .loop-t .inv .1))
-     (c .step-s .ensures))
+    let sixteen : length m ≡ 16 = length-take-le 16 (c .args .w .now) (omega arith) in (
+      c .ahead .array-long,
+      ap (take (t + 1 + 16)) (c .ahead .ensures) ∙ scheduled-set w m t within (c .loop-t .inv .1),
+      round-again t _ (c .loop-t .s) (c .args .start) (c .step-s .result) (scheduled 48 m) (c .loop-t .inv .2)
+          (ap (λ (v : List ℕ). getD v t 0) (c .ahead .ensures) ∙ word-kept w m t _ few sixteen (c .loop-t .inv .1))
+          (c .step-s .ensures),
+    )
 
 pub returns : need.returns
 returns c =
@@ -35,6 +36,6 @@ returns c =
     let w = c .loop-t .w in
     let all : c .loop-t .t ≡ 48 = omega arith in
     record {
-        schedule = sym (take-all 64 w (omega arith)) ∙ subst (λ (n : ℕ). take (n + 16) w ≡ scheduled n m) all (c .loop-t .inv .1);
-        state = subst (λ (n : ℕ). c .loop-t .s ≡ rounds n (c .args .start) (scheduled 48 m)) all (c .loop-t .inv .2)
+      schedule = sym (take-all 64 w (omega arith)) ∙ subst (λ (n : ℕ). take (n + 16) w ≡ scheduled n m) all (c .loop-t .inv .1);
+      state = subst (λ (n : ℕ). c .loop-t .s ≡ rounds n (c .args .start) (scheduled 48 m)) all (c .loop-t .inv .2);
     }

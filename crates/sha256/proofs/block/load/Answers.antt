@@ -14,6 +14,7 @@ pub loop-i-again : need.loop-i-again
 loop-i-again c =
     let i = c .loop-i .i in
     let w = c .loop-i .w in
-    let within : i < length w = omega arith in
-    (length-set w i _ ∙ c .loop-i .inv .0,
-     ap (λ (x : ℕ). take (i + 1) (set w i x)) (c .word-at .ensures) ∙ words-set w (c .args .block .now) i within (c .loop-i .inv .1))
+    let within : i < length w = omega arith in (
+      length-set w i _ ∙ c .loop-i .inv .0,
+      ap (λ (x : ℕ). take (i + 1) (set w i x)) (c .word-at .ensures) ∙ words-set w (c .args .block .now) i within (c .loop-i .inv .1),
+    )

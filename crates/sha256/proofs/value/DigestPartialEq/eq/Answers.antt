@@ -14,6 +14,7 @@ returns-then-c-g c =
     let y : Digest = c .args .other .now in
     let four : length (x .words) ≡ 4 = search needs in
     let other : length (y .words) ≡ 4 = search needs in
-    let three = c .if-c-g .taken in
-    (λ e. same-words x y four other (three .0) (three .1) (three .2) (eqb-true _ _ e),
-     λ e. eq-eqb _ _ (ap (λ (d : Digest). getD (d .words) 3 0) e))
+    let three = c .if-c-g .taken in (
+      λ e. same-words x y four other (three .0) (three .1) (three .2) (eqb-true _ _ e),
+      λ e. eq-eqb _ _ (ap (λ (d : Digest). getD (d .words) 3 0) e),
+    )
