@@ -1,8 +1,10 @@
 // What an edition is: its number, its pages with their bound, and a report of their digest.
 ghost use mathlib.Core.Path.{_≡_};
+ghost use Prim.Native.Nat.{_≤_};
 ghost use lib.ListN.{length};
-ghost use Rattle.edition.specs.Pages.{admitted};
+ghost use Rattle.edition.specs.Pages.{admitted, most-bytes};
 ghost use Rattle.edition.specs.Reports.{reported, report-text};
+ghost use Rattle.sha256.specs.Padding.{blocks, padded};
 ghost use Rattle.std.specs.declared.option.Option.the-variants.{Some};
 
 mod report;
@@ -32,6 +34,14 @@ pub fn admit(length: usize) -> Result<(), Refusal>
     }
 }
 
+// How many blocks are hashed, the padded end included.
+fn blocks_hashed(pages: &[u8]) -> usize
+    requires { ⌜ length (now pages) ≤ most-bytes ⌝ }
+    ensures { λ r. ⌜ r ≡ blocks (padded (now (pages .entry))) ⌝ }
+{
+    (pages.len() + 8) / 64 + 1
+}
+
 // The report of some pages, or the refusal of pages out of bounds.
 pub fn report_on(pages: &[u8]) -> Result<Report, Refused>
     ensures { λ r. ⌜ r ≡ reported (now (pages .entry)) ⌝ }
@@ -40,7 +50,7 @@ pub fn report_on(pages: &[u8]) -> Result<Report, Refused>
     admit(bytes)?;
     Ok(Report {
         bytes,
-        blocks: (bytes + 8) / 64 + 1,
+        blocks: blocks_hashed(pages),
         digest: digest(pages),
     })
 }

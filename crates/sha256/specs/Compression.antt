@@ -17,7 +17,7 @@ abbrev pub temporary2 : State → ℕ
 temporary2 s = plus (Σ0 (s .a)) (maj (s .a) (s .b) (s .c))
 
 -- one round, with the constant k and the schedule's word w
-unfoldable pub round : State → ℕ → ℕ → State
+abbrev pub round : State → ℕ → ℕ → State
 round s k w =
     record {
       a = plus (temporary1 s k w) (temporary2 s);
@@ -36,7 +36,7 @@ rounds zero s w = s
 rounds (suc n) s w = round (rounds n s w) (getD constants n 0) (getD w n 0)
 
 -- word by word
-unfoldable pub added : State → State → State
+abbrev pub added : State → State → State
 added s v =
     record {
       a = plus (s .a) (v .a);

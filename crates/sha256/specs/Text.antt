@@ -12,10 +12,13 @@ use Rattle.sha256.specs.Hash.{sha256, paired}
 abbrev pub digest-of : List ℕ → Digest
 digest-of m = record { words = paired (sha256 m) }
 
--- its 32 bytes: the eight of each word in turn
-unfoldable pub digest-bytes : Digest → List ℕ
-digest-bytes d =
-    bytes8 (getD (d .words) 0 0) ++ bytes8 (getD (d .words) 1 0) ++ bytes8 (getD (d .words) 2 0) ++ bytes8 (getD (d .words) 3 0)
+-- the bytes of four words in turn
+unfoldable pub bytes32 : ℕ → ℕ → ℕ → ℕ → List ℕ
+bytes32 a b c d = bytes8 a ++ bytes8 b ++ bytes8 c ++ bytes8 d
+
+-- a digest's 32 bytes, each word's most significant first
+abbrev pub digest-bytes : Digest → List ℕ
+digest-bytes d = bytes32 (getD (d .words) 0 0) (getD (d .words) 1 0) (getD (d .words) 2 0) (getD (d .words) 3 0)
 
 -- the ASCII code of a hexadecimal digit, in lower case
 abbrev pub hex-digit : ℕ → ℕ

@@ -1,7 +1,7 @@
 // A digest's 32 bytes, and the text that is printed of it.
 ghost use mathlib.Core.Path.{_≡_};
 ghost use Prim.Native.Nat.{_<_};
-ghost use Rattle.sha256.specs.Text.{hex-digit, digest-bytes, digest-text};
+ghost use Rattle.sha256.specs.Text.{hex-digit, bytes32, digest-bytes, digest-text};
 ghost use Rattle.std.specs.declared.option.Option.the-variants.{Some};
 use crate::buffer::put;
 use crate::value::Digest;
@@ -15,18 +15,25 @@ fn digit(n: u8) -> u8
     if n < 10 { b'0' + n } else { b'a' + (n - 10) }
 }
 
+// The bytes of four words in turn.
+fn lay_out(a: u64, b: u64, c: u64, d: u64) -> [u8; 32]
+    ensures { λ r. ⌜ r ≡ bytes32 a b c d ⌝ }
+{
+    let mut bytes = [0; 32];
+    put(&mut bytes, 0, &a.to_be_bytes());
+    put(&mut bytes, 8, &b.to_be_bytes());
+    put(&mut bytes, 16, &c.to_be_bytes());
+    put(&mut bytes, 24, &d.to_be_bytes());
+    bytes
+}
+
 impl Digest {
     // The 32 bytes, each word's most significant first.
     pub fn bytes(self) -> [u8; 32]
         ensures { λ r. ⌜ r ≡ digest-bytes self ⌝ }
     {
         let [a, b, c, d] = self.words;
-        let mut bytes = [0; 32];
-        put(&mut bytes, 0, &a.to_be_bytes());
-        put(&mut bytes, 8, &b.to_be_bytes());
-        put(&mut bytes, 16, &c.to_be_bytes());
-        put(&mut bytes, 24, &d.to_be_bytes());
-        bytes
+        lay_out(a, b, c, d)
     }
 
     // The 64 lower-case hexadecimal digits.

@@ -13,6 +13,8 @@ mod state;
 mod tail;
 mod value;
 
+use message::hash;
+
 pub use bytes::DigestDisplay;
 pub use state::State;
 pub use value::Digest;
@@ -23,7 +25,7 @@ pub use value::DigestPartialEq;
 pub fn digest(pages: &[u8]) -> Digest
     ensures { λ r. ⌜ r ≡ digest-of (now (pages .entry)) ⌝ }
 {
-    State::initial().finish(0, pages)
+    hash(pages).digest()
 }
 
 // The definitions give the published digests of the empty message, of "abc" and of a message of two blocks.

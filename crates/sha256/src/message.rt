@@ -3,7 +3,7 @@ ghost use mathlib.Core.Path.{_≡_};
 ghost use Prim.Native.Nat.{_+_, _*_, _^_};
 ghost use Rattle.sha256.specs.Constants.{initial};
 ghost use Rattle.sha256.specs.Compression.{compressed};
-ghost use Rattle.sha256.specs.Hash.{folded, resumed, paired};
+ghost use Rattle.sha256.specs.Hash.{folded, resumed, sha256, paired};
 use crate::block::compress;
 use crate::state::State;
 use crate::tail::end;
@@ -29,6 +29,13 @@ fn resume(start: State, before: u64, rest: &[u8]) -> State
         .wrapping_mul(512)
         .wrapping_add((rest.len() as u64).wrapping_mul(8));
     end(s, &rest[rest.len() / 64 * 64..], bits)
+}
+
+// Hashes a whole message.
+pub(crate) fn hash(pages: &[u8]) -> State
+    ensures { λ r. ⌜ r ≡ sha256 (now (pages .entry)) ⌝ }
+{
+    resume(State::initial(), 0, pages)
 }
 
 fn pair(high: u32, low: u32) -> u64
@@ -61,18 +68,24 @@ impl State {
         compress(self, block)
     }
 
+    // The words in pairs.
+    pub(crate) fn digest(self) -> Digest
+        ensures { λ r. ⌜ r ≡ record { words = paired self } ⌝ }
+    {
+        Digest {
+            words: [
+                pair(self.a, self.b),
+                pair(self.c, self.d),
+                pair(self.e, self.f),
+                pair(self.g, self.h),
+            ],
+        }
+    }
+
     // The digest of a message of which `before` blocks are hashed already, into `self`, and `rest` is left.
     pub fn finish(self, before: u64, rest: &[u8]) -> Digest
         ensures { λ r. ⌜ r ≡ record { words = paired (resumed self before (now (rest .entry))) } ⌝ }
     {
-        let s = resume(self, before, rest);
-        Digest {
-            words: [
-                pair(s.a, s.b),
-                pair(s.c, s.d),
-                pair(s.e, s.f),
-                pair(s.g, s.h),
-            ],
-        }
+        resume(self, before, rest).digest()
     }
 }

@@ -8,14 +8,20 @@ pub struct Digest {
     pub words: [u64; 4],
 }
 
+fn same(x: [u64; 4], y: [u64; 4]) -> bool
+    ensures { λ r. ⌜ Decides r (x ≡ y) ⌝ }
+{
+    let [a, b, c, d] = x;
+    let [e, f, g, h] = y;
+    a == e && b == f && c == g && d == h
+}
+
 // A derived one would say nothing of an array.
 pub impl PartialEq<Digest> for Digest as DigestPartialEq {
     ghost equals = { λ x y r. Decides r (x ≡ y) };
 
     fn eq(&self, other: &Digest) -> bool {
-        let [a, b, c, d] = self.words;
-        let [e, f, g, h] = other.words;
-        a == e && b == f && c == g && d == h
+        same(self.words, other.words)
     }
 }
 
