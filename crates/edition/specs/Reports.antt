@@ -1,13 +1,13 @@
 -- The report of some pages, and its text.
 use Prim.Native.Nat.{ℕ}
-use mathlib.Core.Bool.{cond}
 use mathlib.Core.List.{List, _++_}
 use lib.Chars.{codes}
 use lib.Dec.{leb}
 use lib.ListN.{length}
 use Rattle.std.specs.Written.{decimal}
 use Rattle.std.specs.declared.result.Result.{Result}
-use Rattle.std.specs.declared.result.Result.the-variants.{Ok, Err}
+use Rattle.std.specs.declared.result.Result.the-variants.{Ok}
+use Rattle.refusal.specs.Questions.{ask, whole}
 use Rattle.refusal.specs.declared.Refused.{Refused}
 use Rattle.refusal.specs.declared.Refusal.the-variants.{PagesTooLong}
 use Rattle.sha256.specs.Padding.{padded, blocks}
@@ -21,7 +21,7 @@ report-of pages = record { bytes = length pages; blocks = blocks (padded pages);
 
 -- the report, or refusal 7 of pages out of bounds
 abbrev pub reported : List ℕ → Result Report Refused
-reported pages = cond (leb (length pages) most-bytes) (Ok (report-of pages)) (Err (record { refusal = PagesTooLong; place = 0 }))
+reported pages = ask (leb (length pages) most-bytes) (whole PagesTooLong) (Ok (report-of pages))
 
 -- the three lines that are printed, without the last line's end
 abbrev pub report-text : Report → List ℕ

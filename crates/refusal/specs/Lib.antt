@@ -1,3 +1,4 @@
 pub mod Numbers
 pub mod Places
+pub mod Questions
 pub mod Texts
