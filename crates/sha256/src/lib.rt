@@ -13,9 +13,8 @@ mod state;
 mod tail;
 mod value;
 
-use message::hash;
-
 pub use bytes::DigestDisplay;
+use message::hash;
 pub use state::State;
 pub use value::Digest;
 pub use value::DigestEq;

@@ -10,7 +10,11 @@ const LONGEST: usize = 130;
 fn published(rt: &LibcRuntime) -> io::Result<()> {
     println!(rt, "empty {}", digest(b""))?;
     println!(rt, "abc {}", digest(b"abc"))?;
-    println!(rt, "448-bits {}", digest(b"abcdbcdecdefdefgefghfghighijhijkijkljklmklmnlmnomnopnopq"))?;
+    println!(
+        rt,
+        "448-bits {}",
+        digest(b"abcdbcdecdefdefgefghfghighijhijkijkljklmklmnlmnomnopnopq")
+    )?;
     let million = vec![in rt.alloc(); b'a'; 1_000_000]?;
     println!(rt, "million-a {}", digest(million.as_slice()))
 }

@@ -13,8 +13,7 @@ returns-then-c-g c =
     let y : List ℕ = c .args .y in
     let four : length x ≡ 4 = search needs in
     let other : length y ≡ 4 = search needs in
-    let three = c .if-c-g .taken in
-    (
+    let three = c .if-c-g .taken in (
       λ e. same-words x y four other (three .0) (three .1) (three .2) (eqb-true _ _ e),
       λ e. eq-eqb _ _ (ap (λ (w : List ℕ). getD w 3 0) e),
     )

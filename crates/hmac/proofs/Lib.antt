@@ -1,0 +1,5 @@
+mod Blocks
+mod Masks
+mod Differences
+mod Stamps
+mod Examples
