@@ -1,0 +1,9 @@
+pub mod Sets
+pub mod Rules
+pub mod Opening
+pub mod Sized
+pub mod All
+pub mod Rotating
+pub mod Counting
+pub mod Consequences
+pub mod Cases
