@@ -1,4 +1,4 @@
-.PHONY: demo test bench
+.PHONY: demo test clib bench
 
 # The digest of a sample edition.
 demo:
@@ -8,6 +8,13 @@ demo:
 # The gate: every crate proved, every edit tried, every program run.
 test:
 	@bash .ci/run
+
+# The library for C with its header, ready to link; it needs no other library than C's.
+clib:
+	@rt staticlib bodunkwa >/dev/null
+	@mkdir -p target/clib
+	@cp include/bodunkwa.h target/staticlib/libbodunkwa.a target/clib
+	@echo "cc your.c -Itarget/clib target/clib/libbodunkwa.a"
 
 # The proved functions beside plain Rust.
 bench:

@@ -8,6 +8,14 @@ use std::time::Instant;
 
 unsafe extern "C" {
     fn bodunkwa_digest(pages: *const u8, pages_len: usize, digest: *mut u8, digest_len: usize) -> u32;
+    fn bodunkwa_stamp_checks(
+        key: *const u8,
+        key_len: usize,
+        statement: *const u8,
+        statement_len: usize,
+        stamp: *const u8,
+        stamp_len: usize,
+    ) -> u32;
 }
 
 fn proved_digest(pages: &[u8]) -> [u8; 32] {
@@ -15,6 +23,14 @@ fn proved_digest(pages: &[u8]) -> [u8; 32] {
     let answer = unsafe { bodunkwa_digest(pages.as_ptr(), pages.len(), digest.as_mut_ptr(), 32) };
     assert_eq!(answer, 0);
     digest
+}
+
+fn proved_stamp_checks(key: &[u8], statement: &[u8], stamp: &[u8]) -> bool {
+    let answer = unsafe {
+        bodunkwa_stamp_checks(key.as_ptr(), key.len(), statement.as_ptr(), statement.len(), stamp.as_ptr(), stamp.len())
+    };
+    assert!(answer <= 1);
+    answer == 1
 }
 
 /// Seconds that `turns` calls take.
@@ -36,8 +52,13 @@ fn side_by_side<T>(turns: usize, mut proved: impl FnMut() -> T, mut plain: impl 
     best
 }
 
+/// Bytes without a visible pattern.
+fn some_bytes(count: u32) -> Vec<u8> {
+    (0..count).map(|i| (i.wrapping_mul(2_654_435_761) >> 24) as u8).collect()
+}
+
 fn digests() {
-    let pages: Vec<u8> = (0..65_536u32).map(|i| (i.wrapping_mul(2_654_435_761) >> 24) as u8).collect();
+    let pages = some_bytes(65_536);
     for length in (0..1_000).chain([4_096, 65_535, 65_536]) {
         assert_eq!(proved_digest(&pages[..length]), plain::digest(&pages[..length]), "length {length}");
     }
@@ -47,6 +68,35 @@ fn digests() {
     println!("digest of 65,536 bytes: proved {:.0} MB/s, plain Rust {:.0} MB/s, ratio {:.2}", rate(proved), rate(plain), plain / proved);
 }
 
+/// A check prepares the key, makes the statement's stamp and compares.
+fn stamps() {
+    let bytes = some_bytes(1_000);
+    for at in 0..900 {
+        let (key, statement) = (&bytes[at..at + 32], &bytes[at + 32..at + 68]);
+        let mut stamp = plain::PreparedKey::new(key).stamp(statement);
+        let both = |stamp: &[u8]| (proved_stamp_checks(key, statement, stamp), plain::stamp_checks(key, statement, stamp));
+        assert_eq!(both(&stamp), (true, true), "right stamp at {at}");
+        stamp[at % 32] ^= 1 << (at % 8);
+        assert_eq!(both(&stamp), (false, false), "wrong stamp at {at}");
+    }
+    let (key, statement) = (&bytes[..32], &bytes[32..68]);
+    let stamp = plain::PreparedKey::new(key).stamp(statement);
+    let turns = 20_000;
+    let (proved, plain) = side_by_side(
+        turns,
+        || proved_stamp_checks(black_box(key), black_box(statement), black_box(&stamp)),
+        || plain::stamp_checks(black_box(key), black_box(statement), black_box(&stamp)),
+    );
+    let rate = |seconds: f64| turns as f64 / seconds / 1e3;
+    println!(
+        "check of a stamp: proved {:.0} thousand/s, plain Rust {:.0} thousand/s, ratio {:.2}",
+        rate(proved),
+        rate(plain),
+        plain / proved
+    );
+}
+
 fn main() {
     digests();
+    stamps();
 }

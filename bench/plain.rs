@@ -1,6 +1,7 @@
-//! SHA-256 in plain Rust, of the same shape as the proved one: the schedule is worked out sixteen
-//! words ahead of the rounds, the state is eight words, whole blocks are hashed where they lie, and
-//! no hash instructions are used. It is the measure for the proved one, and nothing else uses it.
+//! SHA-256 and HMAC in plain Rust, of the same shape as the proved ones: the schedule is worked out
+//! sixteen words ahead of the rounds, the state is eight words, whole blocks are hashed where they
+//! lie, stamps go on from the states after the key's blocks, and no hash instructions are used. It is
+//! the measure for the proved ones, and nothing else uses it.
 
 const K: [u32; 64] = [
     0x428a2f98, 0x71374491, 0xb5c0fbcf, 0xe9b5dba5, 0x3956c25b, 0x59f111f1, 0x923f82a4, 0xab1c5ed5,
@@ -113,4 +114,40 @@ pub fn finish(start: State, before: u64, rest: &[u8]) -> [u8; 32] {
 
 pub fn digest(pages: &[u8]) -> [u8; 32] {
     finish(INITIAL, 0, pages)
+}
+
+/// A key's hash states after its block under each pad.
+pub struct PreparedKey {
+    inner: State,
+    outer: State,
+}
+
+impl PreparedKey {
+    pub fn new(key: &[u8]) -> PreparedKey {
+        let mut block = [0u8; 64];
+        if key.len() > 64 {
+            block[..32].copy_from_slice(&digest(key));
+        } else {
+            block[..key.len()].copy_from_slice(key);
+        }
+        PreparedKey {
+            inner: compress(INITIAL, &block.map(|byte| byte ^ 0x36)),
+            outer: compress(INITIAL, &block.map(|byte| byte ^ 0x5c)),
+        }
+    }
+
+    pub fn stamp(&self, message: &[u8]) -> [u8; 32] {
+        finish(self.outer, 1, &finish(self.inner, 1, message))
+    }
+
+    /// Compares all the bytes, wherever they differ.
+    pub fn checks(&self, message: &[u8], stamp: &[u8]) -> bool {
+        let right = self.stamp(message);
+        stamp.len() == right.len() && stamp.iter().zip(&right).fold(0, |diff, (a, b)| diff | (a ^ b)) == 0
+    }
+}
+
+/// Whether the stamp is that of a statement of 36 bytes under a key of 32.
+pub fn stamp_checks(key: &[u8], statement: &[u8], stamp: &[u8]) -> bool {
+    key.len() == 32 && statement.len() == 36 && PreparedKey::new(key).checks(statement, stamp)
 }

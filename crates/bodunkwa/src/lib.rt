@@ -1,9 +1,18 @@
 // The functions that C programs call; include/bodunkwa.h declares them.
 ghost use mathlib.Core.Path.{_≡_};
-ghost use Rattle.bodunkwa.specs.Answers.{number, digest-answer, digest-memory};
+ghost use Rattle.std.specs.Orderings.{Decides};
+ghost use Rattle.bodunkwa.specs.Answers.{number, digest-answer, digest-memory, Stamp-checks, One-where};
 use edition::admit;
+use hmac::PreparedKey;
 use refusal::Refusal;
 use sha256::digest;
+
+// The bytes of a digest.
+const DIGEST_BYTES: usize = 32;
+// The bytes of a house's key for stamps.
+const KEY_BYTES: usize = 32;
+// The bytes of a statement: the rule's mark, a house, a number and a digest.
+const STATEMENT_BYTES: usize = 36;
 
 // Writes the digest of the pages to the front of the memory.
 fn write_digest(pages: &[u8], memory: &mut [u8]) -> Result<(), Refusal>
@@ -11,10 +20,10 @@ fn write_digest(pages: &[u8], memory: &mut [u8]) -> Result<(), Refusal>
     ensures memory { λ _. ⌜ now (memory .exit) ≡ digest-memory (now (pages .entry)) (now (memory .entry)) ⌝ }
 {
     admit(pages.len())?;
-    if memory.len() < 32 {
+    if memory.len() < DIGEST_BYTES {
         return Err(Refusal::MemoryTooSmall);
     }
-    memory[0..32].copy_from_slice(&digest(pages).bytes());
+    memory[0..DIGEST_BYTES].copy_from_slice(&digest(pages).bytes());
     Ok(())
 }
 
@@ -29,4 +38,21 @@ pub extern "C" fn bodunkwa_digest(pages: &[u8], memory: &mut [u8]) -> u32
         Ok(()) => 0,
         Err(refusal) => refusal.number() as u32,
     }
+}
+
+// Whether the stamp is the statement's under the key. Every wrong length is a no; that of the stamp is asked with its bytes.
+fn checks(key: &[u8], statement: &[u8], stamp: &[u8]) -> bool
+    ensures { λ r. ⌜ Decides r (Stamp-checks (now (key .entry)) (now (statement .entry)) (now (stamp .entry))) ⌝ }
+{
+    key.len() == KEY_BYTES
+        && statement.len() == STATEMENT_BYTES
+        && PreparedKey::new(key).checks(statement, stamp)
+}
+
+// Whether a stamp checks: 1 for yes, 0 for no.
+#[unsafe(no_mangle)]
+pub extern "C" fn bodunkwa_stamp_checks(key: &[u8], statement: &[u8], stamp: &[u8]) -> u32
+    ensures { λ r. ⌜ One-where (Stamp-checks (now (key .entry)) (now (statement .entry)) (now (stamp .entry))) r ⌝ }
+{
+    if checks(key, statement, stamp) { 1 } else { 0 }
 }
