@@ -1,0 +1,4 @@
+mod Receipts
+pub mod Questions
+pub mod Files
+mod Parting

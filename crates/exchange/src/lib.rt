@@ -1,0 +1,22 @@
+mod announcing;
+mod collecting;
+mod filing;
+mod gathering;
+mod layout;
+mod opening;
+mod reading;
+mod rows;
+mod station;
+mod stations;
+
+pub use filing::Filing;
+pub use gathering::Closed;
+pub use gathering::Gathering;
+pub use opening::Exchange;
+pub use reading::Head;
+pub use reading::Receipt;
+pub use reading::part_head;
+pub use reading::read_receipt;
+pub use station::Row;
+pub use station::Slot;
+pub use station::Station;

@@ -1,0 +1,29 @@
+// The exchange: a witness rule and a seal kind. Its calls stand in the modules beside this one.
+ghost use mathlib.Core.Path.{_≡_};
+use seal::Seal;
+use witness::Rule;
+
+pub struct Exchange<R: Rule, S: Seal> {
+    pub(crate) rule: R,
+    pub(crate) seal: S,
+}
+
+impl<R: Rule, S: Seal> Exchange<R, S> {
+    pub fn open(rule: R, seal: S) -> Exchange<R, S>
+        ensures { λ r. ⌜ r ≡ record { rule = rule; seal = seal } ⌝ }
+    {
+        Exchange { rule, seal }
+    }
+
+    pub fn rule(&self) -> &R
+        ensures { λ r. ⌜ now r ≡ now (self .entry) .rule ⌝ }
+    {
+        &self.rule
+    }
+
+    pub fn seal(&self) -> &S
+        ensures { λ r. ⌜ now r ≡ now (self .entry) .seal ⌝ }
+    {
+        &self.seal
+    }
+}
