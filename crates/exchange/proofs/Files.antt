@@ -7,18 +7,19 @@ use lib.Dec.{eqb, leb, ltb}
 use lib.ListN.{length}
 use Rattle.std.specs.declared.result.Result.{Result}
 use Rattle.std.specs.declared.result.Result.the-variants.{Ok, Err}
-use Rattle.refusal.specs.Questions.{ask, whole}
+use Rattle.refusal.specs.Questions.{ask, after, whole}
 use Rattle.refusal.specs.declared.Refused.{Refused}
 use Rattle.refusal.specs.declared.Refusal.the-variants.{StationHouse, PagesTooLong, NoSuchHouse, NumberPast, NumberAhead, NotAccepted, BundleTooShort, OtherRule, OtherPages, BundleLength}
 use Rattle.sha256.specs.Text.{digest-of}
 use Rattle.edition.specs.Pages.{most-bytes}
 use Rattle.witness.specs.Rules.{Ruling}
+use Rattle.seal.specs.declared.statement.Statement.{Statement}
 use Rattle.seal.specs.Meanings.{Meaning}
 use Rattle.exchange.specs.declared.station.Station.{Station}
 use Rattle.exchange.specs.declared.filing.Filing.{Filing}
-use Rattle.exchange.specs.Stations.{row-of, same-digest}
-use Rattle.exchange.specs.Layout.{head-length, receipt-at, bundle-mark, bundle-house, bundle-number, bundle-digest, bundle-count}
-use Rattle.exchange.specs.Machine.{go-on, walk, file-questions, file-answer}
+use Rattle.exchange.specs.Stations.{row-of, same-digest, with-row, filed-row}
+use Rattle.exchange.specs.Layout.{head-length, receipt-at, bundle-mark, bundle-house, bundle-number, bundle-digest, bundle-count, bundle-statement}
+use Rattle.exchange.specs.Machine.{go-on, walk, file-questions, file-answer, file-station}
 use Rattle.exchange.proofs.Questions.{asked, yes-to, went-on}
 
 module _ {S : Type 0} (r : Ruling) (k : Meaning S) where
@@ -90,6 +91,21 @@ module _ {S : Type 0} (r : Ruling) (k : Meaning S) where
         is = let e = last .1 in cc;
       }
 
+  -- the last question, from what the receipts gave
+  abbrev judged : Station → List ℕ → Result ℕ Refused → Result Filing Refused
+  judged x b y =
+      go-on y (λ signers. ask (r .accepts (bundle-house b) (bundle-number b) signers) (whole NotAccepted)
+      (Ok (record { station = x .house; house = bundle-house b; number = bundle-number b; digest = bundle-digest b; signers = signers })))
+
+  after-questions : (s : S) (x : Station) (b p : List ℕ) → file-questions r k x b p ≡ Ok tt → file-answer r k s x b p ≡ judged x b (walk r k s b (bundle-count b) 0 0)
+  after-questions s x b p first = ap (λ (y : Result (Unit {0}) Refused). go-on y (λ _. judged x b (walk r k s b (bundle-count b) 0 0))) first
+
+  -- a file whose receipts are taken
+  pub file-judged : (s : S) (x : Station) (b p : List ℕ) (signers : ℕ) → file-questions r k x b p ≡ Ok tt → walk r k s b (bundle-count b) 0 0 ≡ Ok signers
+      → file-answer r k s x b p ≡ ask (r .accepts (bundle-house b) (bundle-number b) signers) (whole NotAccepted) (Ok (filing x b signers))
+  unfolding filing
+  file-judged s x b p signers first walked = after-questions s x b p first ∙ ap (judged x b) walked
+
   -- a file that is taken
   pub fit-files : (s : S) (x : Station) (b p : List ℕ) → (fit : Fit s b) → Due x b p → file-answer r k s x b p ≡ Ok (filing x b (fit .signers))
   unfolding file-questions filing
@@ -103,6 +119,23 @@ module _ {S : Type 0} (r : Ruling) (k : Meaning S) where
       let q3 = yes-to (leb head-length (length b)) (whole BundleTooShort) _ (fit .long) ∙ q4 in
       let q2 = yes-to (leb (length p) most-bytes) (whole PagesTooLong) _ (due .within) ∙ q3 in
       let q1 = yes-to (ltb (x .house) (r .houses)) (whole StationHouse) _ (due .member) ∙ q2 in
-      ap (λ (y : Result (Unit {0}) Refused). go-on y (λ _. go-on (walk r k s b (bundle-count b) 0 0) (λ signers. ask (r .accepts (bundle-house b) (bundle-number b) signers) (whole NotAccepted) (Ok (filing x b signers))))) q1
-      ∙ ap (λ (y : Result ℕ Refused). go-on y (λ signers. ask (r .accepts (bundle-house b) (bundle-number b) signers) (whole NotAccepted) (Ok (filing x b signers)))) (fit .walked)
+      file-judged s x b p (fit .signers) q1 (fit .walked)
       ∙ yes-to (r .accepts (bundle-house b) (bundle-number b) (fit .signers)) (whole NotAccepted) (Ok (filing x b (fit .signers))) (fit .accepted)
+
+  -- the same, from the statement and the count as they are read
+  pub file-read : (s : S) (x : Station) (b p : List ℕ) (y : Statement) (count signers : ℕ) → file-questions r k x b p ≡ Ok tt → y ≡ bundle-statement b → count ≡ bundle-count b
+      → walk r k s b count 0 0 ≡ Ok signers
+      → file-answer r k s x b p ≡ ask (r .accepts (y .house) (y .number) signers) (whole NotAccepted)
+      (Ok (record { station = x .house; house = y .house; number = y .number; digest = y .digest; signers = signers }))
+  unfolding filing bundle-statement
+  file-read s x b p y count signers first same counted walked =
+      file-judged s x b p signers first (ap (λ (n : ℕ). walk r k s b n 0 0) (sym counted) ∙ walked)
+      ∙ ap (λ (z : Statement). ask (r .accepts (z .house) (z .number) signers) (whole NotAccepted) (Ok (record { station = x .house; house = z .house; number = z .number; digest = z .digest; signers = signers }))) (sym same)
+
+  -- a refused file leaves the station, a taken one changes the row of its house
+  pub station-kept : (s : S) (x : Station) (b p : List ℕ) (e : Refused) → file-answer r k s x b p ≡ Err e → file-station r k s x b p ≡ x
+  station-kept s x b p e refused = ap (λ (y : Result Filing Refused). after y (λ _. with-row x (bundle-house b) (filed-row (row-of x (bundle-house b)))) x) refused
+
+  pub station-filed : (s : S) (x : Station) (b p : List ℕ) (f : Filing) → file-answer r k s x b p ≡ Ok f
+      → file-station r k s x b p ≡ with-row x (bundle-house b) (filed-row (row-of x (bundle-house b)))
+  station-filed s x b p f taken = ap (λ (y : Result Filing Refused). after y (λ _. with-row x (bundle-house b) (filed-row (row-of x (bundle-house b)))) x) taken

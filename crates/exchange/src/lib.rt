@@ -1,13 +1,14 @@
 mod announcing;
 mod collecting;
 mod filing;
+mod filings;
+mod fresh;
 mod gathering;
 mod layout;
 mod opening;
 mod reading;
 mod rows;
 mod station;
-mod stations;
 
 pub use filing::Filing;
 pub use gathering::Closed;

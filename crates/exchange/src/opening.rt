@@ -1,5 +1,6 @@
 // The exchange: a witness rule and a seal kind. Its calls stand in the modules beside this one.
 ghost use mathlib.Core.Path.{_≡_};
+ghost use Rattle.exchange.specs.Law.{Law};
 use seal::Seal;
 use witness::Rule;
 
@@ -9,8 +10,10 @@ pub struct Exchange<R: Rule, S: Seal> {
 }
 
 impl<R: Rule, S: Seal> Exchange<R, S> {
+    // Takes a rule and a seal kind. Its second clause is the law over all runs: agreement, order and honesty, progress.
     pub fn open(rule: R, seal: S) -> Exchange<R, S>
-        ensures { λ r. ⌜ r ≡ record { rule = rule; seal = seal } ⌝ }
+        ensures value { λ r. ⌜ r ≡ record { rule = rule; seal = seal } ⌝ }
+        ensures law { λ _. ⌜ Law (R·Rule .ruling rule) (S·Seal .meaning) ⌝ }
     {
         Exchange { rule, seal }
     }

@@ -5,7 +5,7 @@ ghost use lib.Dec.{leb, ltb};
 ghost use Rattle.std.specs.declared.result.Result.the-variants.{Ok};
 ghost use Rattle.refusal.specs.Questions.{ask};
 ghost use Rattle.refusal.specs.declared.Refusal.the-variants.{NumberPast, NumberAhead};
-ghost use Rattle.exchange.specs.Stations.{same-digest, is-empty, free-of-other, slot-of, noted-row};
+ghost use Rattle.exchange.specs.Stations.{same-digest, is-empty, free-of-other, slot-of, noted-row, filed-row};
 use crate::station::Row;
 use crate::station::Slot;
 use edition::Number;
@@ -15,7 +15,7 @@ use sha256::Digest;
 // How far a house may be ahead of what is filed of it.
 pub(crate) const WINDOW: Number = 4;
 
-fn same(x: Digest, y: Digest) -> bool
+pub(crate) fn same(x: Digest, y: Digest) -> bool
     ensures { λ r. ⌜ r ≡ same-digest x y ⌝ }
 {
     let [a, b, c, d] = x.words;
@@ -72,5 +72,15 @@ impl Row {
         ensures { λ _. ⌜ now (self .exit) ≡ noted-row (now (self .entry)) number digest ⌝ }
     {
         self.slots[(number - self.last - 1) as usize] = Slot::Holds(digest);
+    }
+
+    // The next number is filed: the slots move down by one, and the fourth is empty.
+    pub(crate) fn file(&mut self, number: Number)
+        requires { ⌜ number ≡ now self .last + 1 ⌝ }
+        ensures { λ _. ⌜ now (self .exit) ≡ filed-row (now (self .entry)) ⌝ }
+    {
+        let [_, second, third, fourth] = self.slots;
+        self.last = number;
+        self.slots = [second, third, fourth, Slot::Empty];
     }
 }
