@@ -21,8 +21,7 @@ use Rattle.exchange.specs.Layout.{bundle-mark, bundle-house, bundle-number, bu
 use Rattle.exchange.specs.Machine.{statement-of, file-answer}
 use Rattle.exchange.specs.Runs.{Event, announced, noted, started, added, closed, issued, filed, signed, World, Step, Run, Some}
 use Rattle.exchange.specs.Law.{Signs, Files, Honest, Unforged-now, Unforged}
-use Rattle.exchange.proofs.Files.{Fit, Due, file-taken}
-use Rattle.exchange.proofs.Moves.{filed-as}
+use Rattle.exchange.proofs.Files.{Fit, Due, file-taken, filed-as}
 use Rattle.exchange.proofs.Stations.{Signed}
 use Rattle.exchange.proofs.Walks.{signer-receipted, receipt-whole}
 
@@ -80,7 +79,7 @@ module _ (r : Ruling) (first : ℕ → Station) (honest : ℕ) where
     backed-now i j n p (closed g y) h w w′ step unforged files = absurd (files .1)
     backed-now i j n p (issued g m y m′) h w w′ step unforged files = absurd (files .1)
     backed-now i j n p (filed a b q (Ok f)) h w w′ step unforged files =
-        let is = filed-as r (w .stations a) k (w .seal) b q f (sym (step .0)) in
+        let is = filed-as r k (w .seal) (w .stations a) b q f (sym (step .0)) in
         subst₃ (λ x y z. Backed x y (digest-of z) h) (sym (is .0) ∙ files .1 .1) (sym (is .1) ∙ files .1 .2) (files .1 .4)
         (file-backed a b q f h w (sym (step .0)) unforged)
     backed-now i j n p (filed a b q (Err e)) h w w′ step unforged files = absurd (files .1)

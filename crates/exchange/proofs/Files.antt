@@ -41,7 +41,7 @@ module _ {S : Type 0} (r : Ruling) (k : Meaning S) where
     pub next : eqb (bundle-number b) (row-of x (bundle-house b) .last + 1) ≡ true
     pub same : same-digest (bundle-digest b) (digest-of p) ≡ true
 
-  pub filing : Station → List ℕ → ℕ → Filing
+  abbrev pub filing : Station → List ℕ → ℕ → Filing
   filing x b signers = record { station = x .house; house = bundle-house b; number = bundle-number b; digest = bundle-digest b; signers = signers }
 
   pub record Taken-file (s : S) (x : Station) (b p : List ℕ) (f : Filing) : Type 0 where
@@ -79,7 +79,6 @@ module _ {S : Type 0} (r : Ruling) (k : Meaning S) where
 
   -- a taken file
   pub file-taken : (s : S) (x : Station) (b p : List ℕ) (f : Filing) → file-answer r k s x b p ≡ Ok f → Taken-file s x b p f
-  unfolding filing
   file-taken s x b p f taken =
       let after-questions = went-on (file-questions r k x b p) _ f taken in
       let first = questions-answered x b p (after-questions .1 .0) in
@@ -103,12 +102,11 @@ module _ {S : Type 0} (r : Ruling) (k : Meaning S) where
   -- a file whose receipts are taken
   pub file-judged : (s : S) (x : Station) (b p : List ℕ) (signers : ℕ) → file-questions r k x b p ≡ Ok tt → walk r k s b (bundle-count b) 0 0 ≡ Ok signers
       → file-answer r k s x b p ≡ ask (r .accepts (bundle-house b) (bundle-number b) signers) (whole NotAccepted) (Ok (filing x b signers))
-  unfolding filing
   file-judged s x b p signers first walked = after-questions s x b p first ∙ ap (judged x b) walked
 
   -- a file that is taken
   pub fit-files : (s : S) (x : Station) (b p : List ℕ) → (fit : Fit s b) → Due x b p → file-answer r k s x b p ≡ Ok (filing x b (fit .signers))
-  unfolding file-questions filing
+  unfolding file-questions
   fit-files s x b p fit due =
       let q9 = yes-to {A = Unit {0}} (eqb (length b) (receipt-at (k .size) (bundle-count b))) (whole BundleLength) (Ok tt) (fit .sized) in
       let q8 = yes-to (same-digest (bundle-digest b) (digest-of p)) (whole OtherPages) _ (due .same) ∙ q9 in
@@ -127,7 +125,7 @@ module _ {S : Type 0} (r : Ruling) (k : Meaning S) where
       → walk r k s b count 0 0 ≡ Ok signers
       → file-answer r k s x b p ≡ ask (r .accepts (y .house) (y .number) signers) (whole NotAccepted)
       (Ok (record { station = x .house; house = y .house; number = y .number; digest = y .digest; signers = signers }))
-  unfolding filing bundle-statement
+  unfolding bundle-statement
   file-read s x b p y count signers first same counted walked =
       file-judged s x b p signers first (ap (λ (n : ℕ). walk r k s b n 0 0) (sym counted) ∙ walked)
       ∙ ap (λ (z : Statement). ask (r .accepts (z .house) (z .number) signers) (whole NotAccepted) (Ok (record { station = x .house; house = z .house; number = z .number; digest = z .digest; signers = signers }))) (sym same)
@@ -139,3 +137,7 @@ module _ {S : Type 0} (r : Ruling) (k : Meaning S) where
   pub station-filed : (s : S) (x : Station) (b p : List ℕ) (f : Filing) → file-answer r k s x b p ≡ Ok f
       → file-station r k s x b p ≡ with-row x (bundle-house b) (filed-row (row-of x (bundle-house b)))
   station-filed s x b p f taken = ap (λ (y : Result Filing Refused). after y (λ _. with-row x (bundle-house b) (filed-row (row-of x (bundle-house b)))) x) taken
+
+  -- a taken file answers the house and the number of its bundle
+  pub filed-as : (s : S) (x : Station) (b p : List ℕ) (f : Filing) → file-answer r k s x b p ≡ Ok f → (f .house ≡ bundle-house b) × (f .number ≡ bundle-number b)
+  filed-as s x b p f taken = let is = file-taken s x b p f taken .is in (ap (λ (y : Filing). y .house) is, ap (λ (y : Filing). y .number) is)

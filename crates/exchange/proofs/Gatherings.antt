@@ -33,7 +33,8 @@ use Rattle.exchange.proofs.Issued.{made-of}
 use Rattle.exchange.proofs.Memory.{Written, none-written, more-written, headed-written}
 use Rattle.exchange.proofs.Questions.{asked}
 use Rattle.exchange.proofs.Quiet.{Quiet, earlier, own-fed, start-of-other, add-of-other, issue-of-other, any-announce, any-note, any-close, any-file, any-sign, refused-start, refused-add, refused-issue}
-use Rattle.exchange.proofs.Walking.{Grows, Counts, Gathers, gathers-more, gathers-grows, no-member}
+use Rattle.exchange.proofs.Walk.{Counts}
+use Rattle.exchange.proofs.Walking.{Grows, Gathers, gathers-more, gathers-grows, no-member}
 
 -- what a call leaves, by the answer that was found
 left-by : {A E B : Type 0} (y a : Result A E) (new : A → B) (old b : B) → y ≡ a → b ≡ after a new old → b ≡ after y new old
@@ -144,7 +145,7 @@ module _ {S : Type 0} (r : Ruling) (k : Meaning S) where
           written = λ m _. subst₃ (λ (c : ℕ) (l : List ℕ) (zs : List Receipt). Written (k .size) c l zs) (sym ones-none) refl (sym empty) (none-written (k .size) m);
         }
 
-    joins : (i : ℕ) (z m m′ : List ℕ) (t : Unit {0}) (x : Gathering) → Counts r k s (gathering-statement r x) (x .gathered) (record { house = i; seal = z })
+    joins : (i : ℕ) (z m m′ : List ℕ) (t : Unit {0}) (x : Gathering) → Counts r k s (gathering-statement r x) (x .gathered) i z
         → length z ≡ k .size → receipt-at (k .size) (ones (x .gathered) + 1) ≤ length m
         → m′ ≡ paste m (receipt-at (k .size) (ones (x .gathered))) (receipt-bytes i z) (receipt-length (k .size))
         → Open g h s x → Open g (added g i z m (Ok t) m′ ∷ h) s (with-house x i)
@@ -243,7 +244,7 @@ module _ {S : Type 0} (r : Ruling) (k : Meaning S) where
         let q4 = asked (eqb (length z) (k .size)) (whole SealLength) _ t (q3 .1) in
         let q5 = asked (k .checks s i (gathering-statement r x) z) (whole SealFails) _ t (q4 .1) in
         let q6 = asked (leb (receipt-at (k .size) (ones set + 1)) (length m)) (whole MemoryTooSmall) _ t (q5 .1) in
-        let counts : Counts r k s (gathering-statement r x) set (record { house = i; seal = z }) = record { inside = q1 .0; named = q2 .0; new = q3 .0; checks = q5 .0 } in
+        let counts : Counts r k s (gathering-statement r x) set i z = record { inside = q1 .0; named = q2 .0; new = q3 .0; checks = q5 .0 } in
         subst (λ (a : Result (Unit {0}) Refused). Open g (added g i z m (Ok t) m′ ∷ h) s (after a (λ _. with-house x i) x)) e
         (joins g h s i z m m′ t x counts (eqb-true (length z) (k .size) (q4 .0)) (leb-true (receipt-at (k .size) (ones set + 1)) (length m) (q6 .0)) (left-by (Ok t) _ _ m m′ e left) o)
     added-own i z m (Err e) m′ x refused left o =

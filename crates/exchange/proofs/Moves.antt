@@ -23,7 +23,7 @@ use Rattle.exchange.specs.Machine.{member, window, statement-of, announce-answ
 use Rattle.exchange.specs.Runs.{Event, announced, noted, started, added, closed, issued, filed, signed, World, put, Step}
 use Rattle.exchange.specs.Law.{Signs, numbers}
 use Rattle.exchange.proofs.Questions.{asked, went-on}
-use Rattle.exchange.proofs.Files.{file-taken}
+use Rattle.exchange.proofs.Files.{file-taken, filed-as}
 
 -- what stands at a name after another value was put at one
 pub put-either : {A : Type 0} (P : A → Type 0) (f : ℕ → A) (a : ℕ) (x : A) (b : ℕ) → (b ≡ a → P x) → (b ≢ a → P (f b)) → P (put f a x b)
@@ -89,15 +89,6 @@ module _ (r : Ruling) (s : Station) where
           ahead = leb-true n (row-of s j .last + window) (q4 .0);
           empty = q7 .0;
         }
-
-    -- a filing has the bundle's house and number
-    pub filed-as : (b p : List ℕ) (f : Filing) → file-answer r k z s b p ≡ Ok f → (f .house ≡ bundle-house b) × (f .number ≡ bundle-number b)
-    filed-as b p f taken =
-        let after-questions = went-on (file-questions r k s b p) _ f taken in
-        let after-walk = went-on (walk r k z b (bundle-count b) 0 0) _ f (after-questions .1 .1) in
-        let accepted = asked (r .accepts (bundle-house b) (bundle-number b) (after-walk .0)) (whole NotAccepted) _ f (after-walk .1 .1) in
-        let e = accepted .1 in
-        (cc, cc)
 
 module _ (r : Ruling) (first : ℕ → Station) (i : ℕ) where
   -- a call by which house i signs nothing
@@ -177,7 +168,7 @@ module _ (r : Ruling) (first : ℕ → Station) (i : ℕ) where
     advancing : (c : ℕ) (b p : List ℕ) (f : Filing) (s : Station) (z : S) → first c .house ≡ i → Ok f ≡ file-answer r k z s b p
         → Moves (filed c b p (Ok f)) s (file-station r k z s b p)
     advancing c b p f s z own taken =
-        let is = filed-as r s k z b p f (sym taken) in
+        let is = filed-as r k z s b p f (sym taken) in
         let file = file-taken r k z s b p f (sym taken) in
         let j = bundle-house b in
         inr (inr (record {

@@ -35,7 +35,7 @@ use Rattle.exchange.specs.Machine.{gathering-statement, walk, file-questions, 
 use Rattle.exchange.specs.Runs.{Event, announced, noted, started, added, closed, issued, filed, signed, Held, none, open-with, closed-with, gone, World, Step, Run, Some}
 use Rattle.exchange.specs.Law.{Taken, Starts, Adds, Issues, Fed, Files-from, Honest, brought, numbers, receipts-in}
 use Rattle.exchange.proofs.Questions.{asked, yes-to, went-on}
-use Rattle.exchange.proofs.Files.{Fit, Due, file-taken, fit-files}
+use Rattle.exchange.proofs.Files.{Fit, Due, file-taken, fit-files, filed-as}
 use Rattle.exchange.proofs.Gatherings.{Going, Done, State, stands}
 use Rattle.exchange.proofs.Growing.{step-grows}
 use Rattle.exchange.proofs.Heads.{housed, numbered, digested, same-digests}
@@ -86,14 +86,6 @@ module _ {S : Type 0} (r : Ruling) (k : Meaning S) where
   files w a b p y w′ fit due step =
       subst (λ (v : Result Filing Refused). Taken v) (sym (step .0 ∙ fit-files r k (w .seal) (w .stations a) b p fit due)) tt
 
-  filing-of : (s : S) (x : Station) (b p : List ℕ) (f : Filing) → file-answer r k s x b p ≡ Ok f → (f .house ≡ bundle-house b) × (f .number ≡ bundle-number b)
-  filing-of s x b p f taken =
-      let questions = went-on (file-questions r k x b p) _ f taken in
-      let walked = went-on (walk r k s b (bundle-count b) 0 0) _ f (questions .1 .1) in
-      let last = asked (r .accepts (bundle-house b) (bundle-number b) (walked .0)) (whole NotAccepted) _ f (walked .1 .1) in
-      let is = last .1 in
-      (cc, cc)
-
   -- a bundle that some house has filed, for house j and number n
   record Filed (s : S) (j n : ℕ) (b : List ℕ) : Type 0 where
     pub fit : Fit r k s b
@@ -110,7 +102,7 @@ module _ {S : Type 0} (r : Ruling) (k : Meaning S) where
     filed-now w (issued g m y m′) w′ step it = absurd it
     filed-now w (filed a b′ p (Ok f)) w′ step it =
         let taken = file-taken r k (w .seal) (w .stations a) b′ p f (sym (step .0)) in
-        let named = filing-of (w .seal) (w .stations a) b′ p f (sym (step .0)) in
+        let named = filed-as r k (w .seal) (w .stations a) b′ p f (sym (step .0)) in
         subst (λ (v : List ℕ). Filed (w .seal) j n v) (it .3) (record { fit = taken .fit; house = sym (named .0) ∙ it .1; number = sym (named .1) ∙ it .2 })
     filed-now w (filed a b′ p (Err e)) w′ step it = absurd it
     filed-now w (signed i′ x m y m′) w′ step it = absurd it

@@ -1,5 +1,5 @@
 -- Laws of the walk over a bundle's receipts, one receipt at a time.
-use mathlib.Core.Bool.{Bool, true, false, not}
+use mathlib.Core.Bool.{true, not}
 use mathlib.Core.List.{List}
 use mathlib.Core.Path.{_≡_, refl, ap, ap₂, _∙_}
 use Prim.Native.Nat.{ℕ, zero, suc, _+_, _-_, _*_, _^_, _≤_, _<_}
@@ -9,39 +9,52 @@ use lib.Bits.{bitOr}
 use lib.Dec.{ltb}
 use Rattle.std.specs.declared.result.Result.{Result}
 use Rattle.std.specs.declared.result.Result.the-variants.{Ok, Err}
-use Rattle.refusal.specs.Questions.{ask}
 use Rattle.refusal.specs.declared.Refused.{Refused}
 use Rattle.refusal.specs.declared.Refusal.the-variants.{NoSuchHouse, NotNamed, ReceiptRepeated, SealFails}
 use Rattle.witness.specs.Rules.{Ruling}
 use Rattle.seal.specs.declared.statement.Statement.{Statement}
 use Rattle.seal.specs.Meanings.{Meaning}
-use Rattle.exchange.specs.Layout.{receipt-at, receipt-house, receipt-seal, bundle-house, bundle-number, bundle-statement}
+use Rattle.exchange.specs.Layout.{receipt-at, receipt-house, receipt-seal, bundle-statement}
+use Rattle.exchange.proofs.Questions.{asked, yes-to}
 use Rattle.exchange.specs.Machine.{member, go-on, at-receipt, receipt-answer, walk}
-
--- going on from four questions is putting them first
-four-first : {A B E : Type 0} (p q s t : Bool) (a b c d : E) (x : A) (next : A → Result B E)
-    → ask p a (ask q b (ask s c (ask t d (next x)))) ≡ go-on (ask p a (ask q b (ask s c (ask t d (Ok x))))) next
-four-first false q s t a b c d x next = refl
-four-first true false s t a b c d x next = refl
-four-first true true false t a b c d x next = refl
-four-first true true true false a b c d x next = refl
-four-first true true true true a b c d x next = refl
 
 -- the receipts before a place lie before the receipts' end
 pub place-within : (size i n : ℕ) → i < n → receipt-at size (i + 1) ≤ receipt-at size n
 place-within size i n h = omega (arith, mul-le-mul-right {m = i + 1} {n = n} (1 + size) (omega arith))
 
+module _ {S : Type 0} (r : Ruling) (k : Meaning S) where
+  -- a receipt for statement x, after those of the houses in `met`
+  pub record Counts (s : S) (x : Statement) (met house : ℕ) (seal : List ℕ) : Type 0 where
+    pub inside : ltb house (r .houses) ≡ true
+    pub named : member (r .named (x .house) (x .number)) house ≡ true
+    pub new : not (member met house) ≡ true
+    pub checks : k .checks s house x seal ≡ true
+
+  pub counts-taken : (s : S) (x : Statement) (place met house : ℕ) (seal : List ℕ) → Counts s x met house seal
+      → receipt-answer r k s x place house seal met ≡ Ok (bitOr met (2 ^ house))
+  counts-taken s x place met house seal c =
+      yes-to (ltb house (r .houses)) (at-receipt NoSuchHouse place) _ (c .inside)
+      ∙ yes-to (member (r .named (x .house) (x .number)) house) (at-receipt NotNamed place) _ (c .named)
+      ∙ yes-to (not (member met house)) (at-receipt ReceiptRepeated place) _ (c .new)
+      ∙ yes-to (k .checks s house x seal) (at-receipt SealFails place) _ (c .checks)
+
+  pub taken-counts : (s : S) (x : Statement) (place met house all : ℕ) (seal : List ℕ) → receipt-answer r k s x place house seal met ≡ Ok all
+      → Counts s x met house seal × (bitOr met (2 ^ house) ≡ all)
+  taken-counts s x place met house all seal taken =
+      let q1 = asked (ltb house (r .houses)) (at-receipt NoSuchHouse place) _ all taken in
+      let q2 = asked (member (r .named (x .house) (x .number)) house) (at-receipt NotNamed place) _ all (q1 .1) in
+      let q3 = asked (not (member met house)) (at-receipt ReceiptRepeated place) _ all (q2 .1) in
+      let q4 = asked (k .checks s house x seal) (at-receipt SealFails place) _ all (q3 .1) in
+      let last = q4 .1 in
+      (record { inside = q1 .0; named = q2 .0; new = q3 .0; checks = q4 .0 }, cc)
+
 module _ {S : Type 0} (r : Ruling) (k : Meaning S) (s : S) (b : List ℕ) where
   abbrev pub this : ℕ → ℕ → Result ℕ Refused
   this i met = receipt-answer r k s (bundle-statement b) (i + 1) (receipt-house (k .size) b i) (receipt-seal (k .size) b i) met
 
-  walk-more : (n i met : ℕ) → walk r k s b (suc n) i met ≡ go-on (this i met) (λ all. walk r k s b n (i + 1) all)
-  unfolding walk bundle-statement
-  walk-more n i met =
-      let house = receipt-house (k .size) b i in
-      four-first (ltb house (r .houses)) (member (r .named (bundle-house b) (bundle-number b)) house) (not (member met house))
-      (k .checks s house (bundle-statement b) (receipt-seal (k .size) b i)) (at-receipt NoSuchHouse i) (at-receipt NotNamed i)
-      (at-receipt ReceiptRepeated i) (at-receipt SealFails i) (bitOr met (2 ^ house)) (λ all. walk r k s b n (i + 1) all)
+  pub walk-more : (n i met : ℕ) → walk r k s b (suc n) i met ≡ go-on (this i met) (λ all. walk r k s b n (i + 1) all)
+  unfolding walk
+  walk-more n i met = refl
 
   pub walk-none : (i met : ℕ) → walk r k s b 0 i met ≡ Ok met
   unfolding walk

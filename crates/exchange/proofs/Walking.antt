@@ -6,21 +6,22 @@ use mathlib.Core.Path.{_≡_, sym, ap, subst, _∙_}
 use native.Mathlib.Omega.{arith}
 use lib.Bits.{bitOr}
 use lib.Count.{ones}
-use lib.Dec.{ltb}
 use lib.ListN.{length}
 use Rattle.std.proofs.shelf.Tests.{not-true, eqb-false}
+use Rattle.std.specs.declared.result.Result.{Result}
 use Rattle.std.specs.declared.result.Result.the-variants.{Ok}
 use Rattle.bits.specs.Bits.{has}
 use Rattle.bits.proofs.Bits.{has-le}
-use Rattle.refusal.specs.declared.Refusal.the-variants.{NoSuchHouse, NotNamed, ReceiptRepeated, SealFails}
+use Rattle.refusal.specs.declared.Refused.{Refused}
 use Rattle.witness.specs.Rules.{Ruling}
 use Rattle.witness.proofs.Counting.{ones-added}
 use Rattle.seal.specs.Meanings.{Meaning, Meant}
 use Rattle.seal.specs.declared.statement.Statement.{Statement}
-use Rattle.exchange.specs.Layout.{bundle-house, bundle-number, bundle-statement, bundle-count, receipt-house, receipt-seal}
-use Rattle.exchange.specs.Machine.{member, at-receipt, walk}
+use Rattle.exchange.specs.Layout.{bundle-statement, bundle-count, receipt-house, receipt-seal}
+use Rattle.exchange.specs.Machine.{member, go-on, walk}
 use Rattle.exchange.specs.Law.{Receipt, receipts-from}
-use Rattle.exchange.proofs.Questions.{asked, yes-to}
+use Rattle.exchange.proofs.Questions.{went-on}
+use Rattle.exchange.proofs.Walk.{this, walk-none, walk-more, Counts, counts-taken, taken-counts}
 use Rattle.exchange.proofs.Files.{Fit}
 use Rattle.exchange.proofs.Memory.{Sized}
 
@@ -32,21 +33,14 @@ abbrev pub Grows : {S : Type 0} → Meaning S → S → S → Type 0
 Grows k s s′ = (i : ℕ) (x : Statement) (z : List ℕ) → k .checks s i x z ≡ true → k .checks s′ i x z ≡ true
 
 module _ {S : Type 0} (r : Ruling) (k : Meaning S) where
-  -- a receipt for statement x, after those of the houses in `met`
-  pub record Counts (s : S) (x : Statement) (met : ℕ) (z : Receipt) : Type 0 where
-    pub inside : ltb (z .house) (r .houses) ≡ true
-    pub named : member (r .named (x .house) (x .number)) (z .house) ≡ true
-    pub new : not (member met (z .house)) ≡ true
-    pub checks : k .checks s (z .house) x (z .seal) ≡ true
-
   -- receipts that count one after the other, and the houses met after them
   abbrev pub Gathers : S → Statement → ℕ → List Receipt → ℕ → Type 0
   Gathers s x met [] out = met ≡ out
-  Gathers s x met (z ∷ zs) out = Counts s x met z × Gathers s x (bitOr met (2 ^ z .house)) zs out
+  Gathers s x met (z ∷ zs) out = Counts r k s x met (z .house) (z .seal) × Gathers s x (bitOr met (2 ^ z .house)) zs out
 
   pub gathers-more : (s : S) (x : Statement) (met : ℕ) (zs : List Receipt) (out : ℕ) (z : Receipt)
-      → Gathers s x met zs out → Counts s x out z → Gathers s x met (zs ++ (z ∷ [])) (bitOr out (2 ^ z .house))
-  gathers-more s x met [] out z e counts = (subst (λ (m : ℕ). Counts s x m z) (sym e) counts, ap (λ (m : ℕ). bitOr m (2 ^ z .house)) e)
+      → Gathers s x met zs out → Counts r k s x out (z .house) (z .seal) → Gathers s x met (zs ++ (z ∷ [])) (bitOr out (2 ^ z .house))
+  gathers-more s x met [] out z e counts = (subst (λ (m : ℕ). Counts r k s x m (z .house) (z .seal)) (sym e) counts, ap (λ (m : ℕ). bitOr m (2 ^ z .house)) e)
   gathers-more s x met (y ∷ zs) out z g counts = (g .0, gathers-more s x (bitOr met (2 ^ y .house)) zs out z (g .1) counts)
 
   pub gathers-grows : (s s′ : S) (x : Statement) (met : ℕ) (zs : List Receipt) (out : ℕ) → Grows k s s′ → Gathers s x met zs out → Gathers s′ x met zs out
@@ -69,28 +63,23 @@ module _ {S : Type 0} (r : Ruling) (k : Meaning S) where
 
   -- the walk over a bundle's receipts takes them
   pub gathers-walk : (s : S) (b : List ℕ) (n i met out : ℕ) → Gathers s (bundle-statement b) met (receipts-from (k .size) b n i) out → walk r k s b n i met ≡ Ok out
-  unfolding walk receipts-from bundle-statement
-  gathers-walk s b zero i met out e = ap Ok e
+  unfolding receipts-from
+  gathers-walk s b zero i met out e = walk-none r k s b i met ∙ ap Ok e
   gathers-walk s b (suc n) i met out g =
       let house = receipt-house (k .size) b i in
-      let c = g .0 in
-      yes-to (ltb house (r .houses)) (at-receipt NoSuchHouse i) _ (c .inside)
-      ∙ yes-to (member (r .named (bundle-house b) (bundle-number b)) house) (at-receipt NotNamed i) _ (c .named)
-      ∙ yes-to (not (member met house)) (at-receipt ReceiptRepeated i) _ (c .new)
-      ∙ yes-to (k .checks s house (bundle-statement b) (receipt-seal (k .size) b i)) (at-receipt SealFails i) _ (c .checks)
+      walk-more r k s b n i met
+      ∙ ap (λ (y : Result ℕ Refused). go-on y (λ all. walk r k s b n (i + 1) all)) (counts-taken r k s (bundle-statement b) (i + 1) met house (receipt-seal (k .size) b i) (g .0))
       ∙ gathers-walk s b n (i + 1) (bitOr met (2 ^ house)) out (g .1)
 
   -- and takes no others
   pub walk-gathers : (s : S) (b : List ℕ) (n i met out : ℕ) → walk r k s b n i met ≡ Ok out → Gathers s (bundle-statement b) met (receipts-from (k .size) b n i) out
-  unfolding walk receipts-from bundle-statement
-  walk-gathers s b zero i met out taken = cc
+  unfolding receipts-from
+  walk-gathers s b zero i met out taken = let none = walk-none r k s b i met in cc
   walk-gathers s b (suc n) i met out taken =
-      let house = receipt-house (k .size) b i in
-      let q1 = asked (ltb house (r .houses)) (at-receipt NoSuchHouse i) _ out taken in
-      let q2 = asked (member (r .named (bundle-house b) (bundle-number b)) house) (at-receipt NotNamed i) _ out (q1 .1) in
-      let q3 = asked (not (member met house)) (at-receipt ReceiptRepeated i) _ out (q2 .1) in
-      let q4 = asked (k .checks s house (bundle-statement b) (receipt-seal (k .size) b i)) (at-receipt SealFails i) _ out (q3 .1) in
-      (record { inside = q1 .0; named = q2 .0; new = q3 .0; checks = q4 .0 }, walk-gathers s b n (i + 1) (bitOr met (2 ^ house)) out (q4 .1))
+      let x = bundle-statement b in
+      let step = went-on (this r k s b i met) _ out (sym (walk-more r k s b n i met) ∙ taken) in
+      let counted = taken-counts r k s x (i + 1) met (receipt-house (k .size) b i) (step .0) (receipt-seal (k .size) b i) (step .1 .0) in
+      (counted .0, subst (λ (m : ℕ). Gathers s x m (receipts-from (k .size) b n (i + 1)) out) (sym (counted .1)) (walk-gathers s b n (i + 1) (step .0) out (step .1 .1)))
 
   -- a bundle that fits stays fit
   pub fit-grows : (s s′ : S) (b : List ℕ) → Grows k s s′ → Fit r k s b → Fit r k s′ b

@@ -1,5 +1,5 @@
 -- What a walk over a bundle's receipts has met.
-use mathlib.Core.Bool.{true, not}
+use mathlib.Core.Bool.{true}
 use mathlib.Core.List.{List}
 use mathlib.Core.Logic.{_⊎_, inl, inr, ⊎-elim}
 use mathlib.Core.Path.{_≡_, sym, ap, subst, _∙_}
@@ -7,18 +7,17 @@ use Prim.Native.Nat.{ℕ, zero, suc, _+_, _^_, _≤_, _<_}
 use native.Mathlib.Nat.{mul-le-mul-right, zero-add}
 use native.Mathlib.Omega.{arith}
 use lib.Bits.{bitOr}
-use lib.Dec.{ltb}
 use lib.ListN.{length}
 use Rattle.std.proofs.shelf.Tests.{cases-eq, eqb-true}
 use Rattle.std.specs.declared.result.Result.the-variants.{Ok}
-use Rattle.refusal.specs.declared.Refusal.the-variants.{NoSuchHouse, NotNamed, ReceiptRepeated, SealFails}
 use Rattle.bits.specs.Bits.{has}
 use Rattle.witness.specs.Rules.{Ruling}
 use Rattle.witness.proofs.Members.{has-kept, has-none}
 use Rattle.seal.specs.Meanings.{Meaning}
-use Rattle.exchange.specs.Layout.{receipt-length, receipt-at, receipt-house, receipt-seal, bundle-house, bundle-number, bundle-count, bundle-statement}
-use Rattle.exchange.specs.Machine.{member, at-receipt, walk}
-use Rattle.exchange.proofs.Questions.{asked}
+use Rattle.exchange.specs.Layout.{receipt-length, receipt-at, receipt-house, receipt-seal, bundle-count, bundle-statement}
+use Rattle.exchange.specs.Machine.{walk}
+use Rattle.exchange.proofs.Questions.{went-on}
+use Rattle.exchange.proofs.Walk.{this, walk-none, walk-more, taken-counts}
 use Rattle.exchange.proofs.Files.{Fit}
 
 -- whoever is met with one house more was met before, or is that house
@@ -35,19 +34,17 @@ module _ {S : Type 0} (r : Ruling) (k : Meaning S) (s : S) (b : List ℕ) where
 
   -- whoever is met in the end was met before, or has such a receipt
   walk-met : (n i met all : ℕ) → walk r k s b n i met ≡ Ok all → (z : ℕ) → has all z ≡ 1 → (has met z ≡ 1) ⊎ Receipted (i + n) z
-  unfolding walk
-  walk-met zero i met all walked z z-in = inl (let e : all ≡ met = cc in ap (λ (x : ℕ). has x z) (sym e) ∙ z-in)
+  walk-met zero i met all walked z z-in = inl (let none = walk-none r k s b i met in let e : all ≡ met = cc in ap (λ (x : ℕ). has x z) (sym e) ∙ z-in)
   walk-met (suc n) i met all walked z z-in =
       let house = receipt-house (k .size) b i in
-      let q1 = asked (ltb house (r .houses)) (at-receipt NoSuchHouse i) _ all walked in
-      let q2 = asked (member (r .named (bundle-house b) (bundle-number b)) house) (at-receipt NotNamed i) _ all (q1 .1) in
-      let q3 = asked (not (member met house)) (at-receipt ReceiptRepeated i) _ all (q2 .1) in
-      let q4 = asked (k .checks s house (bundle-statement b) (receipt-seal (k .size) b i)) (at-receipt SealFails i) _ all (q3 .1) in
+      let step = went-on (this r k s b i met) _ all (sym (walk-more r k s b n i met) ∙ walked) in
+      let counted = taken-counts r k s (bundle-statement b) (i + 1) met house (step .0) (receipt-seal (k .size) b i) (step .1 .0) in
       let later : i + 1 + n ≡ i + suc n = omega arith in
+      let before = λ (now : has (step .0) z ≡ 1). met-more met house z (ap (λ (x : ℕ). has x z) (counted .1) ∙ now) in
       ⊎-elim
-      (λ now. ⊎-elim inl (λ same. inr (record { place = i; before = omega arith; house = same; checks = q4 .0 })) (met-more met house z now))
+      (λ now. ⊎-elim inl (λ same. inr (record { place = i; before = omega arith; house = same; checks = counted .0 .checks })) (before now))
       (λ receipt. inr (subst (λ (m : ℕ). Receipted m z) later receipt))
-      (walk-met n (i + 1) (bitOr met (2 ^ house)) all (q4 .1) z z-in)
+      (walk-met n (i + 1) (step .0) all (step .1 .1) z z-in)
 
   module _ (fit : Fit r k s b) where
     -- every signer has a receipt

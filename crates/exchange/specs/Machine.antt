@@ -133,28 +133,25 @@ issue-memory r kind c m =
     after (issue-answer kind c (length m))
     (λ _. paste m 0 (head-bytes (gathering-statement r (c .whole)) (ones (c .whole .gathered))) head-length) m
 
--- a refusal that fell on the receipt at place i, places counted from 0
+-- a refusal that fell on the receipt at a place, places counted from 1
 abbrev pub at-receipt : Refusal → ℕ → Refused
-at-receipt refusal i = record { refusal = refusal; place = i + 1 }
+at-receipt refusal place = record { refusal = refusal; place = place }
 
--- one receipt, its place counted from 1, of a bundle with statement x, after those of the houses in `met`: the set with its house
+-- one receipt at a place of a bundle with statement x, after those of the houses in `met`: the set with its house
 abbrev pub receipt-answer : {S : Type 0} → Ruling → Meaning S → S → Statement → ℕ → ℕ → List ℕ → ℕ → Result ℕ Refused
 receipt-answer r kind s x place house seal met =
-    ask (ltb house (r .houses)) (record { refusal = NoSuchHouse; place = place })
-    (ask (member (r .named (x .house) (x .number)) house) (record { refusal = NotNamed; place = place })
-    (ask (not (member met house)) (record { refusal = ReceiptRepeated; place = place })
-    (ask (kind .checks s house x seal) (record { refusal = SealFails; place = place })
+    ask (ltb house (r .houses)) (at-receipt NoSuchHouse place)
+    (ask (member (r .named (x .house) (x .number)) house) (at-receipt NotNamed place)
+    (ask (not (member met house)) (at-receipt ReceiptRepeated place)
+    (ask (kind .checks s house x seal) (at-receipt SealFails place)
     (Ok (bitOr met (2 ^ house))))))
 
--- the receipts of a bundle from place i on, n of them, after those of the houses in `met`
+-- the receipts of a bundle from place i on, counted from 0, n of them, after those of the houses in `met`
 unfoldable pub walk : {S : Type 0} → Ruling → Meaning S → S → List ℕ → ℕ → ℕ → ℕ → Result ℕ Refused
 walk r kind s b zero i met = Ok met
 walk r kind s b (suc n) i met =
-    ask (ltb (receipt-house (kind .size) b i) (r .houses)) (at-receipt NoSuchHouse i)
-    (ask (member (r .named (bundle-house b) (bundle-number b)) (receipt-house (kind .size) b i)) (at-receipt NotNamed i)
-    (ask (not (member met (receipt-house (kind .size) b i))) (at-receipt ReceiptRepeated i)
-    (ask (kind .checks s (receipt-house (kind .size) b i) (bundle-statement b) (receipt-seal (kind .size) b i)) (at-receipt SealFails i)
-    (walk r kind s b n (i + 1) (bitOr met (2 ^ receipt-house (kind .size) b i))))))
+    go-on (receipt-answer r kind s (bundle-statement b) (i + 1) (receipt-house (kind .size) b i) (receipt-seal (kind .size) b i) met)
+    (λ all. walk r kind s b n (i + 1) all)
 
 -- file: the questions before the receipts
 unfoldable pub file-questions : {S : Type 0} → Ruling → Meaning S → Station → List ℕ → List ℕ → Result (Unit {0}) Refused
