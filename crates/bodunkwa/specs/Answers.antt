@@ -14,6 +14,7 @@ use Rattle.refusal.specs.declared.Refusal.the-variants.{MemoryTooSmall, PagesTo
 use Rattle.edition.specs.Pages.{most-bytes}
 use Rattle.sha256.specs.Text.{digest-of, digest-bytes}
 use Rattle.hmac.specs.Hmac.{hmac-of}
+use Rattle.seal.specs.Statements.{statement-length}
 
 -- an answer as C is given it: 0, or the refusal's number
 abbrev pub number : Result (Unit {0}) Refusal → ℕ
@@ -36,14 +37,10 @@ digest-memory pages memory = after (digest-answer pages memory) (λ _. digest-by
 abbrev pub key-size : ℕ
 key-size = 32
 
--- the bytes of a statement: the rule's mark, a house, a number and a digest
-abbrev pub statement-size : ℕ
-statement-size = 36
-
 -- key and statement have their lengths, and the stamp is the statement's HMAC under the key, which has 32 bytes
 abbrev pub Stamp-checks : List ℕ → List ℕ → List ℕ → Type 0
 Stamp-checks key statement stamp =
-    (length key ≡ key-size) × (length statement ≡ statement-size) × (stamp ≡ digest-bytes (hmac-of key statement))
+    (length key ≡ key-size) × (length statement ≡ statement-length) × (stamp ≡ digest-bytes (hmac-of key statement))
 
 -- a yes or no as C is given it: 1 where the fact holds, 0 where it does not
 abbrev pub One-where : Type 0 → ℕ → Type 0
