@@ -99,6 +99,14 @@ impl<R: Rule, S: Seal> Exchange<R, S> {
         Ok(met)
     }
 
+    // Whether the rule accepts the signers of a statement.
+    fn accepted(&self, statement: Statement, signers: u16) -> bool
+        ensures { λ r. ⌜ r ≡ R·Rule .ruling (now (self .entry) .rule) .accepts (statement .house) (statement .number) signers ⌝ }
+    {
+        self.rule
+            .accepts(statement.house, statement.number, signers)
+    }
+
     // Files the pages of a bundle at a station.
     pub fn file(
         &self,
@@ -112,8 +120,7 @@ impl<R: Rule, S: Seal> Exchange<R, S> {
         let head = self.parted(station, bundle, pages)?;
         let statement = head.statement;
         let signers = self.signers(bundle, statement, head.count)?;
-        if !self.rule
-            .accepts(statement.house, statement.number, signers) {
+        if !self.accepted(statement, signers) {
             return Err(Refused::new(Refusal::NotAccepted));
         }
         let row = &mut station.rows[statement.house as usize];

@@ -25,8 +25,8 @@ signers-requires g c κs =
     let yes-all = questions-answered (g .R·Rule .ruling (c .args .self .now .rule)) (g .S·Seal .meaning) (c .args .station .now) (c .args .bundle .now) (c .args .pages .now) (parts .0) in
     (parts .1, eqb-true _ _ (yes-all .sized) ∙ ap (receipt-at (g .S·Seal .meaning .size)) (sym (parts .2)))
 
-pub returns-then-not-accepts : need.returns-then-not-accepts
-returns-then-not-accepts g c =
+pub returns-then-not-accepted : need.returns-then-not-accepted
+returns-then-not-accepted g c =
     let r = g .R·Rule .ruling (c .args .self .now .rule) in
     let k = g .S·Seal .meaning in
     let s = c .args .self .now .seal in
@@ -36,7 +36,7 @@ returns-then-not-accepts g c =
     let y = c .in-Continue-head .head .statement in
     let parts = c .in-Continue-head .ensures tt in
     let read = file-read r k s x b p y (c .in-Continue-head .head .count) (c .in-Continue-signers .signers) (parts .0) (parts .1) (parts .2) (sym (c .signers .ensures) ∙ c .in-Continue-signers .was tt) in
-    let refused = read ∙ no-to (r .accepts (y .house) (y .number) (c .in-Continue-signers .signers)) (whole NotAccepted) _ (sym (c .accepts .ensures) ∙ c .if-not-accepts .taken) in
+    let refused = read ∙ no-to (r .accepts (y .house) (y .number) (c .in-Continue-signers .signers)) (whole NotAccepted) _ (sym (c .accepted .ensures) ∙ c .if-not-accepted .taken) in
     record { answer = ap Err (c .new .ensures) ∙ sym refused; station = sym (station-kept r k s x b p (whole NotAccepted) refused) }
 
 pub index-station-statement : need.index-station-statement
@@ -68,7 +68,7 @@ returns g c =
     let y = c .in-Continue-head .head .statement in
     let parts = c .in-Continue-head .ensures tt in
     let read = file-read r k s x b p y (c .in-Continue-head .head .count) (c .in-Continue-signers .signers) (parts .0) (parts .1) (parts .2) (sym (c .signers .ensures) ∙ c .in-Continue-signers .was tt) in
-    let taken = read ∙ yes-to (r .accepts (y .house) (y .number) (c .in-Continue-signers .signers)) (whole NotAccepted) _ (sym (c .accepts .ensures) ∙ c .if-not-accepts .left) in
+    let taken = read ∙ yes-to (r .accepts (y .house) (y .number) (c .in-Continue-signers .signers)) (whole NotAccepted) _ (sym (c .accepted .ensures) ∙ c .if-not-accepted .left) in
     record {
       answer = sym taken;
       station = ap (λ (row : Row). with-row x (y .house) row) (c .file .ensures)
