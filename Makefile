@@ -1,9 +1,10 @@
 .PHONY: demo test clib bench
 
-# The digest of a sample edition.
+# A sample edition: its digest, and four houses that agree on it.
 demo:
-	@rt check digest >/dev/null
+	@rt check digest certify >/dev/null
 	@target/bin/digest < samples/spring.txt
+	@target/bin/certify < samples/spring.txt
 
 # The gate: every crate proved, every edit tried, every program run.
 test:

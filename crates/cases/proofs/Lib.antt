@@ -1,0 +1,8 @@
+mod Forging
+mod Heads
+mod Asked
+mod Notes
+mod Bare
+mod Cases
+mod Over
+mod Example

@@ -1,0 +1,4 @@
+pub mod Forging
+pub mod Cases
+pub mod Unused
+pub mod Filing
