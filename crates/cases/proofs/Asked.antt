@@ -20,13 +20,8 @@ use Rattle.exchange.specs.declared.station.Station.{Station}
 use Rattle.exchange.specs.Stations.{row-of, same-digest}
 use Rattle.exchange.specs.Layout.{head-length, receipt-at, bundle-mark, bundle-house, bundle-number, bundle-digest, bundle-count, bundle-statement}
 use Rattle.exchange.specs.Machine.{statement-of, file-questions}
+use Rattle.exchange.proofs.Heads.{same-digests}
 use Rattle.exchange.proofs.Questions.{yes-to}
-
-same-words : (d : Digest) → same-digest d d ≡ true
-same-words d = and-from _ _ (and-from _ _ (and-from _ _ (word 0) (word 1)) (word 2)) (word 3)
-  where
-    word : (i : ℕ) → eqb (getD (d .words) i 0) (getD (d .words) i 0) ≡ true
-    word i = eq-eqb (getD (d .words) i 0) (getD (d .words) i 0) refl
 
 module _ {S : Type 0} (r : Ruling) (k : Meaning S) (x : Station) (j n : ℕ) (b p : List ℕ)
     (own : x .house < r .houses) (member : j < r .houses) (next : n ≡ row-of x j .last + 1) (within : length p ≤ most-bytes)
@@ -46,7 +41,7 @@ module _ {S : Type 0} (r : Ruling) (k : Meaning S) (x : Station) (j n : ℕ) (b 
 
     same : same-digest (bundle-digest b) (digest-of p) ≡ true
     unfolding bundle-statement
-    same = ap (λ (y : Statement). same-digest (y .digest) (digest-of p)) read ∙ same-words (digest-of p)
+    same = ap (λ (y : Statement). same-digest (y .digest) (digest-of p)) read ∙ same-digests (digest-of p) (digest-of p) refl
 
     last : row-of x (bundle-house b) .last ≡ row-of x j .last
     last = ap (λ (i : ℕ). row-of x i .last) housed

@@ -39,7 +39,7 @@ use Rattle.exchange.proofs.Files.{file-read}
 use Rattle.cases.specs.Filing.{alone, only-zero, Run-that-files, Conditions-can-hold, Conditions-can-hold-opened}
 use Rattle.cases.proofs.Asked.{all-asked}
 use Rattle.cases.proofs.Forging.{register-unforged}
-use Rattle.cases.proofs.Heads.{statement-read}
+use Rattle.exchange.proofs.Heads.{stated}
 
 -- memory for one seal, and for a bundle of one receipt
 abbrev seal-memory : List ℕ
@@ -179,7 +179,8 @@ module _ (p : List ℕ) (e s : Register) (high low : ℕ) where
     adds = yes-to (register .checks s 0 statement z) (whole SealFails) (Ok tt) checks
 
     reads : bundle-statement bundle ≡ statement
-    reads = statement-read alone 0 1 p (1 ∷ 0 ∷ z)
+    unfolding laid-out bytes32
+    reads = stated p statement 1 (0 ∷ z) refl
 
     counted : receipt-answer alone register s (bundle-statement bundle) 1 0 z 0 ≡ Ok 1
     unfolding has

@@ -1,5 +1,4 @@
 mod Forging
-mod Heads
 mod Asked
 mod Notes
 mod Bare
