@@ -4,6 +4,7 @@ ghost use Rattle.exchange.specs.Law.{Law};
 use seal::Seal;
 use witness::Rule;
 
+#[derive(Drop)]
 pub struct Exchange<R: Rule, S: Seal> {
     pub(crate) rule: R,
     pub(crate) seal: S,
