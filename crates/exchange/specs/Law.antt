@@ -257,6 +257,12 @@ module _ (r : Ruling) (first : ℕ → Station) where
         -- an issued bundle reads back as the receipts that its gathering's adds took, in their order
         pub reads-back : (g : ℕ) (m b : List ℕ) → Some (Issues g b) h → Fed g m h → receipts-in (k .size) b ≡ brought g h
 
+-- An issued bundle reads back as the receipts that its gathering's adds took, in their order: in every run, under no condition.
+abbrev pub Reads-back : {S : Type 0} → Ruling → Meaning S → Type 0
+Reads-back {S} r k =
+    (first : ℕ → Station) (e : S) (h : List Event) (w : World S) → Run r k e first h w
+    → (g : ℕ) (m b : List ℕ) → Some (Issues g b) h → Fed g m h → receipts-in (k .size) b ≡ brought g h
+
 -- For every set of honest houses, all stations and every state of the seal kind at the opening, and every list of calls: under the
 -- conditions, what is promised holds after it.
 abbrev pub Law : {S : Type 0} → Ruling → Meaning S → Type 0

@@ -1,6 +1,6 @@
 // The exchange: a witness rule and a seal kind. Its calls stand in the modules beside this one.
 ghost use mathlib.Core.Path.{_≡_};
-ghost use Rattle.exchange.specs.Law.{Law};
+ghost use Rattle.exchange.specs.Law.{Law, Reads-back};
 use seal::Seal;
 use witness::Rule;
 
@@ -18,6 +18,12 @@ impl<R: Rule, S: Seal> Exchange<R, S> {
     {
         Exchange { rule, seal }
     }
+
+    // Where each call of a gathering is given the memory that its call before left, the bundle that issue leaves reads back as
+    // exactly the houses and seals that its adds took, in their order.
+    pub fn bundles_read_back(&self)
+        ensures { λ _. ⌜ Reads-back (R·Rule .ruling (now (self .entry) .rule)) (S·Seal .meaning) ⌝ }
+    {}
 
     pub fn rule(&self) -> &R
         ensures { λ r. ⌜ now r ≡ now (self .entry) .rule ⌝ }
