@@ -1,0 +1,4 @@
+pub mod Gathers
+pub mod Outcomes
+pub mod Parses
+pub mod Steps
