@@ -1,10 +1,11 @@
 .PHONY: demo test clib bench
 
-# A sample edition: its digest, and four houses that agree on it.
+# A sample edition: its digest, and four houses that agree on it; then the rehearsal of docs/REHEARSAL.md.
 demo:
-	@rt check digest certify >/dev/null
+	@rt check digest certify rehearse >/dev/null
 	@target/bin/digest < samples/spring.txt
 	@target/bin/certify < samples/spring.txt
+	@target/bin/rehearse < crates/rehearse/stdin
 
 # The gate: every crate proved, every edit tried, every program run.
 test:
