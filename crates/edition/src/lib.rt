@@ -17,8 +17,11 @@ use sha256::DigestDisplay;
 use sha256::digest;
 use std::fmt;
 
-// An edition's number, from 1 on; 0 stands for none. The one place that names its width.
+// An edition's number, from 1 on; 0 stands for none. The one place that names its width, with the constant below.
 pub type Number = u16;
+
+// The last number that an edition can have.
+pub const LAST_NUMBER: Number = 65_535;
 
 // The most bytes that an edition's pages may have.
 pub const MOST_BYTES: usize = 16_777_216;

@@ -7,6 +7,7 @@ ghost use Rattle.exchange.specs.Machine.{placed, member, statement-of, announc
 use crate::opening::Exchange;
 use crate::rows::WINDOW;
 use crate::station::Station;
+use edition::LAST_NUMBER;
 use edition::Number;
 use edition::admit;
 use refusal::Refusal;
@@ -17,9 +18,6 @@ use seal::Statement;
 use sha256::Digest;
 use sha256::digest;
 use witness::Rule;
-
-// The last number that an edition can have.
-const LAST_NUMBER: Number = 65_535;
 
 // Whether a house is in a set.
 pub(crate) fn is_member(set: u16, house: u8) -> bool
