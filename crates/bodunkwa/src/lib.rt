@@ -1,4 +1,6 @@
 // The functions that C programs call; include/bodunkwa.h declares them.
+#![tactic(auto)]
+
 ghost use Rattle.std.specs.Prelude.{◌≡◌, Decides};
 ghost use Rattle.bodunkwa.specs.Answers.{number, digest_answer, digest_memory, StampChecks, OneWhere};
 

@@ -1,4 +1,6 @@
 // What holds of an exchange at each rule and each seal kind, and worked cases.
+#![tactic(auto)]
+
 ghost use Rattle.cases.specs.Cases.{Cases};
 ghost use Rattle.cases.specs.Filing.{ConditionsCanHold, ConditionsCanHoldOpened};
 ghost use Rattle.cases.specs.Forging.{RegisterUnforged};

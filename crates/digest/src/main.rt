@@ -1,4 +1,6 @@
 // Reads an edition's pages from standard input and prints their report.
+#![tactic(auto)]
+
 use anyhow::anyhow;
 use edition::{MOST_BYTES, report_on};
 use std::io::Read;

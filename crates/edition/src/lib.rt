@@ -1,4 +1,6 @@
 // What an edition is: its number, its pages with their bound, and a report of their digest.
+#![tactic(auto)]
+
 ghost use Rattle.std.specs.Prelude.{◌≡◌, ◌≤◌, length, Some};
 ghost use Rattle.edition.specs.Pages.{admitted, most_bytes};
 ghost use Rattle.edition.specs.Reports.{reported, report_text};

@@ -1,3 +1,5 @@
+#![tactic(auto)]
+
 mod announcing;
 mod collecting;
 mod filing;

@@ -1,4 +1,6 @@
 // HMAC of FIPS 198-1 with SHA-256.
+#![tactic(auto)]
+
 ghost use Rattle.std.specs.Prelude.{◌≡◌};
 ghost use Rattle.hmac.specs.Hmac.{hmac_of};
 ghost use Rattle.hmac.specs.Examples.{Examples};

@@ -1,5 +1,7 @@
 // What bench/ times beside plain Rust: many stamps under one prepared key, each of a statement that begins with the stamp before.
 // Nothing else links it.
+#![tactic(auto)]
+
 ghost use Rattle.std.specs.Prelude.{◌≡◌, ◌≤◌, ◌++◌, length, drop};
 ghost use Rattle.measure.specs.Chains.{chained, first, chain_memory};
 

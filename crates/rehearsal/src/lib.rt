@@ -1,4 +1,6 @@
 // Rehearsals: a list of calls played on a small exchange, and the report of what each gave.
+#![tactic(auto)]
+
 ghost use Rattle.std.specs.Prelude.{◌≡◌, IfOk, Some, Err, string_bytes};
 ghost use Rattle.refusal.specs.declared.Refusal.{Refusal as Reason};
 ghost use Rattle.witness.specs.Opening.{opened};

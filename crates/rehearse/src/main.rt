@@ -1,4 +1,6 @@
 // Reads a rehearsal from standard input and prints its report.
+#![tactic(auto)]
+
 use rehearsal::{MOST_INPUT, rehearse};
 use std::io::Read;
 

@@ -1,4 +1,6 @@
 // Seal kinds: signatures as an exchangeable part, with a register and stamps to begin with.
+#![tactic(auto)]
+
 ghost use Rattle.seal.specs.Signings.{SealsAreSigned};
 
 mod houses;

@@ -1,4 +1,6 @@
 // SHA-256 of FIPS 180-4.
+#![tactic(auto)]
+
 ghost use Rattle.std.specs.Prelude.{◌≡◌};
 ghost use Rattle.sha256.specs.Examples.{Examples};
 ghost use Rattle.sha256.specs.Text.{digest_of};

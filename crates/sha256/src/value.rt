@@ -1,8 +1,9 @@
 // The digest as a value: four 64-bit words.
-ghost use Rattle.std.specs.Prelude.{◌≡◌, Decides};
+ghost use Rattle.std.specs.Prelude.{◌≡◌, Decides, nat_eq};
+ghost use Rattle.std.specs.Ordering.{on};
+ghost use Rattle.std.specs.Cmp.Lexicographic.{pointwise};
 ghost use Rattle.std.specs.Cmp.Rules.{comparing};
 ghost use Rattle.std.proofs.Common.{rules};
-ghost use Rattle.std.specs.Cmp as Keys;
 
 // The eight 32-bit words of the hash in pairs, the first of a pair the more significant.
 #[derive(Clone, Copy)]
@@ -20,11 +21,14 @@ fn same(x: [u64; 4], y: [u64; 4]) -> bool
 
 // A derived one would say nothing of an array.
 impl PartialEq for Digest {
-    ghost equals = { λ x y r. Decides r (x ≡ y) };
+    ghost eq = { on (λ x. x.words) (pointwise nat_eq) };
 
-    ghost laws = { Keys.partial_equiv_from_equiv (Prim.search (comparing, rules)) };
+    ghost laws = { Prim.search (comparing, rules) };
 
-    fn eq(&self, other: &Digest) -> bool {
+    fn eq(&self, other: &Digest) -> bool
+        ensures answers { result ≡ on (λ x. x.words) (pointwise nat_eq) self.now other.now }
+        ensures decides { Decides result (self.now ≡ other.now) }
+    {
         same(self.words, other.words)
     }
 }

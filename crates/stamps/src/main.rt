@@ -1,4 +1,6 @@
 // Runs the seven test cases of RFC 4231 for HMAC-SHA-256.
+#![tactic(auto)]
+
 use hmac::{PreparedKey, hmac};
 use sha256::Digest;
 use std::io;

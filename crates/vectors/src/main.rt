@@ -1,5 +1,7 @@
 // Prints digests that an independent implementation's answers, in the file stdout, are compared with:
 // the examples published for SHA-256, and a message of every length from 0 to 130 bytes.
+#![tactic(auto)]
+
 use sha256::digest;
 use std::io;
 

@@ -1,4 +1,6 @@
 // Witness rules: who may acknowledge an edition, and which sets of houses suffice.
+#![tactic(auto)]
+
 ghost use Rattle.witness.specs.Cases.{RuleCases};
 ghost use Rattle.witness.specs.Consequences.{HonestInCommon, HonestSuffice};
 ghost use Rattle.witness.specs.Counting.{Counts, Weighs};

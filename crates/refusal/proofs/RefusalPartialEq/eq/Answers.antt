@@ -4,8 +4,8 @@ use Rattle.refusal.specs.Numbers.{number_of}
 use Rattle.refusal.proofs.Numbers.{same_number}
 use Rattle.refusal.proofs.RefusalPartialEq.eq.Goals as goal
 
-pub returns : goal.returns
-returns c = (
+pub returns-clause-decides : goal.returns-clause-decides
+returns-clause-decides c = (
   λ e. same_number _ _ (sym c.number.ensures ∙ eqb-true _ _ e ∙ c.number-2.ensures),
   λ e. eq-eqb _ _ (c.number.ensures ∙ ap number_of e ∙ sym c.number-2.ensures),
 )

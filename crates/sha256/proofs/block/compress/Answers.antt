@@ -6,10 +6,10 @@ use Rattle.sha256.proofs.block.compress.Goals as goal
 
 pub returns : goal.returns
 returns c =
-    let early = c.early-rounds-early in
+    let early = c.early_rounds-early in
     let start = c.args.start in
-    compressed_by start early.result c.late-rounds.result c.add.result early.new.w c.args.block.now
+    compressed_by start early.result c.late_rounds.result c.add.result early.new.w c.args.block.now
     (early.ensures.schedule ∙ ap (scheduled 48) c.load.ensures)
     (early.ensures.state ∙ ap (rounds 48 start) (sym early.ensures.schedule))
-    (c.late-rounds.ensures start)
+    (c.late_rounds.ensures start)
     c.add.ensures

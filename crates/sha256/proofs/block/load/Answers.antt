@@ -12,5 +12,5 @@ loop-i-preserved c =
     let w = c.loop-i.w in
     let within : i < length w = omega arith in (
       length-set w i _ ∙ c.loop-i.invariant.0,
-      ap (λ (x : ℕ). take (i + 1) (set w i x)) c.word-at.ensures ∙ words_set w c.args.block.now i within c.loop-i.invariant.1,
+      ap (λ (x : ℕ). take (i + 1) (set w i x)) c.word_at.ensures ∙ words_set w c.args.block.now i within c.loop-i.invariant.1,
     )
