@@ -7,5 +7,5 @@ use Rattle.exchange.proofs.layout.write_head.Goals as goal
 pub returns : goal.returns
 returns c =
     let x = c.args.statement in
-    head_written c.args.memory.now (statement_bytes x) c.copy-from-slice.new.self c.args.count statement_length
-    c.requires (statement_bytes_length x) (c.copy-from-slice.ensures.after ∙ c.bytes.ensures)
+    head_written c.args.memory.now (statement_bytes x) c.copy_from_slice.new.self c.args.count statement_length
+    c.requires (statement_bytes_length x) (c.copy_from_slice.ensures.after ∙ c.bytes.ensures)

@@ -4,5 +4,5 @@ use Rattle.exchange.proofs.layout.write_receipt.Goals as goal
 
 pub returns : goal.returns
 returns c =
-    receipt_written c.args.memory.now c.args.seal.now c.copy-from-slice.new.self c.args.at c.args.house _
-    c.requires c.copy-from-slice.ensures.after (omega arith)
+    receipt_written c.args.memory.now c.args.seal.now c.copy_from_slice.new.self c.args.at c.args.house _
+    c.requires c.copy_from_slice.ensures.after (omega arith)

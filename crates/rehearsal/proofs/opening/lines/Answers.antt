@@ -9,8 +9,8 @@ pub loop-byte-init : goal.loop-byte-init
 unfolding end_count
 loop-byte-init c = refl
 
-pub overflow-add-ends : goal.overflow-add-ends
-overflow-add-ends c = omega (arith, c.loop-byte.invariant, ends_few c.args.bytes.now c.loop-byte.byte-index, c.requires)
+pub overflow_add-ends : goal.overflow_add-ends
+overflow_add-ends c = omega (arith, c.loop-byte.invariant, ends_few c.args.bytes.now c.loop-byte.byte-index, c.requires)
 
 pub loop-byte-preserved : goal.loop-byte-preserved
 loop-byte-preserved c =
@@ -19,17 +19,17 @@ loop-byte-preserved c =
       | else-byte-eq-LINE-END w ↦ omega (arith, c.loop-byte.invariant, w.ends-is, ends_no c.args.bytes.now c.loop-byte.byte-index c.loop-byte-test.true w.if-byte-eq-LINE-END.false)
     ]
 
-pub overflow-add-result : goal.overflow-add-result
-overflow-add-result c = omega (arith, c.loop-byte.invariant, ends_few c.args.bytes.now c.loop-byte.byte-index, c.requires)
+pub overflow_add-result : goal.overflow_add-result
+overflow_add-result c = omega (arith, c.loop-byte.invariant, ends_few c.args.bytes.now c.loop-byte.byte-index, c.requires)
 
-pub returns-then-bytes-eq-LINE-END : goal.returns-then-bytes-eq-LINE-END
+pub returns-then-bytes_eq-LINE-END : goal.returns-then-bytes_eq-LINE-END
 unfolding line_count
-returns-then-bytes-eq-LINE-END c =
+returns-then-bytes_eq-LINE-END c =
     let e : end_count (take c.loop-byte.byte-index c.args.bytes.now) ≡ end_count c.args.bytes.now = ends_all c.args.bytes.now c.loop-byte.byte-index c.loop-byte-test.false in
     grind (arith, nat_tests)
 
-pub returns-else-bytes-eq-LINE-END : goal.returns-else-bytes-eq-LINE-END
+pub returns-else-bytes_eq-LINE-END : goal.returns-else-bytes_eq-LINE-END
 unfolding line_count
-returns-else-bytes-eq-LINE-END c =
+returns-else-bytes_eq-LINE-END c =
     let e : end_count (take c.loop-byte.byte-index c.args.bytes.now) ≡ end_count c.args.bytes.now = ends_all c.args.bytes.now c.loop-byte.byte-index c.loop-byte-test.false in
     grind (arith, nat_tests)

@@ -7,4 +7,4 @@ pub returns : goal.returns
 unfolding laid_out bytes32
 returns c =
     let high : c.args.number / 256 % 256 ≡ c.args.number / 256 = omega arith in
-    simp (c.copy-from-slice.ensures.after, c.copy-from-slice-2.ensures.after, c.to-be-bytes.ensures, c.bytes.ensures, high)
+    simp (c.copy_from_slice.ensures.after, c.copy_from_slice-2.ensures.after, c.to_be_bytes.ensures, c.bytes.ensures, high)

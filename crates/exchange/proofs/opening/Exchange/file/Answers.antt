@@ -14,7 +14,7 @@ use Rattle.exchange.proofs.opening.Exchange.file.Goals as goal
 
 pub signers-requires : goal.signers-requires
 signers-requires g c =
-    let parts = c.in-ok-head.ensures in
+    let parts = c.in_ok-head.ensures in
     let yes-all = questions_answered (g.R.Rule.ruling c.args.self.now.rule) g.S.Seal.meaning c.args.station.now c.args.bundle.now c.args.pages.now parts.0 in
     (parts.1, eqb-true _ _ yes-all.sized ∙ ap (receipt_at g.S.Seal.meaning.size) (sym parts.2))
 
@@ -26,16 +26,16 @@ returns-then-not-accepted g c =
     let x : Station = c.args.station.now in
     let b : List ℕ = c.args.bundle.now in
     let p : List ℕ = c.args.pages.now in
-    let y = c.in-ok-head.head.statement in
-    let parts = c.in-ok-head.ensures in
-    let read = file_read r k s x b p y c.in-ok-head.head.count c.in-ok-signers.signers parts.0 parts.1 parts.2 (sym c.signers.ensures ∙ c.in-ok-signers.was) in
-    let refused = read ∙ no_to (r.accepts y.house y.number c.in-ok-signers.signers) (whole NotAccepted) _ (sym c.accepted.ensures ∙ c.if-not-accepted.true) in
+    let y = c.in_ok-head.head.statement in
+    let parts = c.in_ok-head.ensures in
+    let read = file_read r k s x b p y c.in_ok-head.head.count c.in_ok-signers.signers parts.0 parts.1 parts.2 (sym c.signers.ensures ∙ c.in_ok-signers.was) in
+    let refused = read ∙ no_to (r.accepts y.house y.number c.in_ok-signers.signers) (whole NotAccepted) _ (sym c.accepted.ensures ∙ c.if-not-accepted.true) in
     record { answer = ap Err c.new.ensures ∙ sym refused; station = sym (station_kept r k s x b p (whole NotAccepted) refused) }
 
 pub bounds-station-statement : goal.bounds-station-statement
 unfolding bundle_statement
 bounds-station-statement g c =
-    let parts = c.in-ok-head.ensures in
+    let parts = c.in_ok-head.ensures in
     let yes-all = questions_answered (g.R.Rule.ruling c.args.self.now.rule) g.S.Seal.meaning c.args.station.now c.args.bundle.now c.args.pages.now parts.0 in
     let below = ltb-true _ _ yes-all.housed in
     let most = (g.met.R.Rule.lawful c.args.self.now.rule).most in
@@ -44,7 +44,7 @@ bounds-station-statement g c =
 pub file-requires : goal.file-requires
 unfolding bundle_statement
 file-requires g c =
-    let parts = c.in-ok-head.ensures in
+    let parts = c.in_ok-head.ensures in
     let x : Station = c.args.station.now in
     let yes-all = questions_answered (g.R.Rule.ruling c.args.self.now.rule) g.S.Seal.meaning x c.args.bundle.now c.args.pages.now parts.0 in
     ap (λ (y : Statement). y.number) parts.1 ∙ eqb-true _ _ yes-all.due.next ∙ ap (λ (y : Statement). (row_of x y.house).last + 1) (sym parts.1)
@@ -58,10 +58,10 @@ returns g c =
     let x : Station = c.args.station.now in
     let b : List ℕ = c.args.bundle.now in
     let p : List ℕ = c.args.pages.now in
-    let y = c.in-ok-head.head.statement in
-    let parts = c.in-ok-head.ensures in
-    let read = file_read r k s x b p y c.in-ok-head.head.count c.in-ok-signers.signers parts.0 parts.1 parts.2 (sym c.signers.ensures ∙ c.in-ok-signers.was) in
-    let taken = read ∙ yes_to (r.accepts y.house y.number c.in-ok-signers.signers) (whole NotAccepted) _ (sym c.accepted.ensures ∙ c.if-not-accepted.false) in
+    let y = c.in_ok-head.head.statement in
+    let parts = c.in_ok-head.ensures in
+    let read = file_read r k s x b p y c.in_ok-head.head.count c.in_ok-signers.signers parts.0 parts.1 parts.2 (sym c.signers.ensures ∙ c.in_ok-signers.was) in
+    let taken = read ∙ yes_to (r.accepts y.house y.number c.in_ok-signers.signers) (whole NotAccepted) _ (sym c.accepted.ensures ∙ c.if-not-accepted.false) in
     record {
       answer = sym taken;
       station = ap (λ (row : Row). with_row x y.house row) c.file.ensures

@@ -2,17 +2,17 @@ use Rattle.std.proofs.Common.{rules}
 use Rattle.std.proofs.lemmas.List.{set-get_or}
 use Rattle.exchange.proofs.opening.Exchange.note.Goals as goal
 
-pub returns-in-err-within : goal.returns-in-err-within
-returns-in-err-within g c = search (rules, set-get_or)
+pub returns-in_err-within : goal.returns-in_err-within
+returns-in_err-within g c = search (rules, set-get_or)
 
-pub returns-then-not-is-member : goal.returns-then-not-is-member
-returns-then-not-is-member g c = search (rules, set-get_or)
+pub returns-then-not-is_member : goal.returns-then-not-is_member
+returns-then-not-is_member g c = search (rules, set-get_or)
 
-pub returns-then-not-free-of-other : goal.returns-then-not-free-of-other
-returns-then-not-free-of-other g c = search (rules, set-get_or)
+pub returns-then-not-free_of_other : goal.returns-then-not-free_of_other
+returns-then-not-free_of_other g c = search (rules, set-get_or)
 
-pub returns-then-not-is-empty : goal.returns-then-not-is-empty
-returns-then-not-is-empty g c = search (rules, set-get_or)
+pub returns-then-not-is_empty : goal.returns-then-not-is_empty
+returns-then-not-is_empty g c = search (rules, set-get_or)
 
-pub returns-in-err-sign : goal.returns-in-err-sign
-returns-in-err-sign g c = search (rules, set-get_or)
+pub returns-in_err-sign : goal.returns-in_err-sign
+returns-in_err-sign g c = search (rules, set-get_or)

@@ -14,13 +14,13 @@ pub returns-then-station-houses : goal.returns-then-station-houses
 unfolding file_questions bundle_statement
 returns-then-station-houses g c = search rules
 
-pub returns-in-err-admit : goal.returns-in-err-admit
+pub returns-in_err-admit : goal.returns-in_err-admit
 unfolding file_questions bundle_statement
-returns-in-err-admit g c = search rules
+returns-in_err-admit g c = search rules
 
-pub returns-in-default : goal.returns-in-default
+pub returns-in_default : goal.returns-in_default
 unfolding file_questions bundle_statement
-returns-in-default g c = search rules
+returns-in_default g c = search rules
 
 pub returns-then-statement-mark : goal.returns-then-statement-mark
 unfolding file_questions bundle_statement
@@ -59,9 +59,9 @@ returns-then-not-same g c =
     let digests : same_digest (bundle_digest b) (digest_of p) ≡ c.same.result = ap₂ same_digest (sym (ap (λ (y : Statement). y.digest) head.1)) (sym c.digest.ensures) ∙ sym c.same.ensures in
     other_pages r k x b p q1 q2 q3 q4 q5 q6 q7 (digests ∙ c.if-not-same.true) ∙ ap Err (sym c.new-then-not-same.ensures)
 
-pub returns-then-bundle-receipt-at : goal.returns-then-bundle-receipt-at
+pub returns-then-bundle-receipt_at : goal.returns-then-bundle-receipt_at
 unfolding bundle_statement
-returns-then-bundle-receipt-at g c =
+returns-then-bundle-receipt_at g c =
     let r = g.R.Rule.ruling c.args.self.now.rule in
     let k = g.S.Seal.meaning in
     let x : Station = c.args.station.now in
@@ -78,10 +78,10 @@ returns-then-bundle-receipt-at g c =
     let last = ap (λ (y : Statement). (row_of x y.house).last) head.1 in
     let q7 : eqb (bundle_number b) ((row_of x (bundle_house b)).last + 1) ≡ true = eq-eqb _ _ (omega (arith, number, last)) in
     let digests : same_digest (bundle_digest b) (digest_of p) ≡ c.same.result = ap₂ same_digest (sym (ap (λ (y : Statement). y.digest) head.1)) (sym c.digest.ensures) ∙ sym c.same.ensures in
-    let size = c.seal-len.ensures in
+    let size = c.seal_len.ensures in
     let at = c.receipt_at.ensures in
     let sized : eqb (length b) (receipt_at k.size (bundle_count b)) ≡ false = search rules in
-    other_length r k x b p q1 q2 q3 q4 q5 q6 q7 (digests ∙ c.if-not-same.false) sized ∙ ap Err (sym c.new-then-bundle-receipt-at.ensures)
+    other_length r k x b p q1 q2 q3 q4 q5 q6 q7 (digests ∙ c.if-not-same.false) sized ∙ ap Err (sym c.new-then-bundle-receipt_at.ensures)
 
 pub returns : goal.returns
 unfolding bundle_statement
@@ -102,5 +102,5 @@ returns g c =
     let last = ap (λ (y : Statement). (row_of x y.house).last) head.1 in
     let q7 : eqb (bundle_number b) ((row_of x (bundle_house b)).last + 1) ≡ true = eq-eqb _ _ (omega (arith, number, last)) in
     let digests : same_digest (bundle_digest b) (digest_of p) ≡ c.same.result = ap₂ same_digest (sym (ap (λ (y : Statement). y.digest) head.1)) (sym c.digest.ensures) ∙ sym c.same.ensures in
-    let sized : eqb (length b) (receipt_at k.size (bundle_count b)) ≡ true = eq-eqb _ _ (c.if-bundle-receipt-at.false ∙ c.receipt_at.ensures ∙ ap₂ receipt_at c.seal-len.ensures head.2) in
+    let sized : eqb (length b) (receipt_at k.size (bundle_count b)) ≡ true = eq-eqb _ _ (c.if-bundle-receipt_at.false ∙ c.receipt_at.ensures ∙ ap₂ receipt_at c.seal_len.ensures head.2) in
     (all_yes r k x b p q1 q2 q3 q4 q5 q6 q7 (digests ∙ c.if-not-same.false) sized, head.1, head.2)

@@ -5,15 +5,15 @@ use Rattle.rehearsal.specs.Events.{meant}
 use Rattle.rehearsal.proofs.Outcomes.{file_unbundled, file_told}
 use Rattle.rehearsal.proofs.staging.Stage.file.Goals as goal
 
-pub returns-in-err-length : goal.returns-in-err-length
-returns-in-err-length g c =
+pub returns-in_err-length : goal.returns-in_err-length
+returns-in_err-length g c =
     let rule = c.args.self.now.exchange.rule in
     let few = (g.met.R.Rule.lawful rule).most in
     let r = g.R.Rule.ruling rule in
     let q = c.args.self.now.exchange.seal in
-    let p = err_from_is_err_and c.from-residual-in-err-length.result c.from-residual-in-err-length.ensures.1 in
+    let p = err_from_is_err_and c.from-residual-in_err-length.result c.from-residual-in_err-length.ensures.1 in
     record {
-      answer = rw (p.1, p.2) (file_unbundled r q c.args.self.now.stations (meant c.args.event) c.in-ok-at.at c.capped-house.result c.digest.result c.in-err-length.field-0.0 few c.in-ok-at.ensures.answer c.capped-house.ensures c.digest.ensures c.in-err-length.ensures.answer);
+      answer = rw (p.1, p.2) (file_unbundled r q c.args.self.now.stations (meant c.args.event) c.in_ok-at.at c.capped-house.result c.digest.result c.in_err-length.field-0.0 few c.in_ok-at.ensures.answer c.capped-house.ensures c.digest.ensures c.in_err-length.ensures.answer);
       exchange = refl;
     }
 
@@ -24,7 +24,7 @@ returns-in-Ok g c =
     let r = g.R.Rule.ruling rule in
     let q = c.args.self.now.exchange.seal in
     record {
-      answer = file_told r q c.args.self.now.stations (meant c.args.event) c.in-ok-at.at c.capped-house.result c.digest.result c.in-ok-length.length c.bundle.new.memory _ (Ok c.in-Ok.filing) few c.in-ok-at.ensures.answer c.capped-house.ensures c.digest.ensures c.in-ok-length.ensures.answer (ap (λ (n : ℕ). take n c.bundle.new.memory) (sub-zero c.in-ok-length.length)) c.in-Ok.ensures.answer;
+      answer = file_told r q c.args.self.now.stations (meant c.args.event) c.in_ok-at.at c.capped-house.result c.digest.result c.in_ok-length.length c.bundle.new.memory _ (Ok c.in-Ok.filing) few c.in_ok-at.ensures.answer c.capped-house.ensures c.digest.ensures c.in_ok-length.ensures.answer (ap (λ (n : ℕ). take n c.bundle.new.memory) (sub-zero c.in_ok-length.length)) c.in-Ok.ensures.answer;
       exchange = refl;
     }
 
@@ -35,6 +35,6 @@ returns-in-Err g c =
     let r = g.R.Rule.ruling rule in
     let q = c.args.self.now.exchange.seal in
     record {
-      answer = file_told r q c.args.self.now.stations (meant c.args.event) c.in-ok-at.at c.capped-house.result c.digest.result c.in-ok-length.length c.bundle.new.memory _ (Err c.in-Err.refused) few c.in-ok-at.ensures.answer c.capped-house.ensures c.digest.ensures c.in-ok-length.ensures.answer (ap (λ (n : ℕ). take n c.bundle.new.memory) (sub-zero c.in-ok-length.length)) c.in-Err.ensures.answer;
+      answer = file_told r q c.args.self.now.stations (meant c.args.event) c.in_ok-at.at c.capped-house.result c.digest.result c.in_ok-length.length c.bundle.new.memory _ (Err c.in-Err.refused) few c.in_ok-at.ensures.answer c.capped-house.ensures c.digest.ensures c.in_ok-length.ensures.answer (ap (λ (n : ℕ). take n c.bundle.new.memory) (sub-zero c.in_ok-length.length)) c.in-Err.ensures.answer;
       exchange = refl;
     }

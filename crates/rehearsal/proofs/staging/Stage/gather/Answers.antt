@@ -5,19 +5,19 @@ use Rattle.rehearsal.specs.Bundles.{rows_from}
 use Rattle.rehearsal.proofs.Gathers.{rows_on, rows_stop, rows_done}
 use Rattle.rehearsal.proofs.staging.Stage.gather.Goals as goal
 
-pub returns-in-err-add-row : goal.returns-in-err-add-row
-returns-in-err-add-row g c =
+pub returns-in_err-add_row : goal.returns-in_err-add_row
+returns-in_err-add_row g c =
     let r = g.R.Rule.ruling c.args.self.now.exchange.rule in
     let q = c.args.self.now.exchange.seal in
     let u = c.used-used.ensures ∙ ap (λ (s : Register). s.used) c.seal.ensures in
     let p = err_from_is_err_and c.from-residual.result c.from-residual.ensures.1 in
     rw (p.1, p.2)
     (sym (ap (λ (k : ℕ). rows_from r q c.args.statement k 0 c.args.gathering.now c.args.memory.now) u)
-    ∙ rows_stop r q c.args.statement c.used-used.result c.loop-i.i c.args.gathering.now c.loop-i.gathering c.args.memory.now c.loop-i.memory c.in-err-add-row.field-0.0 c.loop-i-test.true c.loop-i.invariant c.in-err-add-row.ensures)
+    ∙ rows_stop r q c.args.statement c.used-used.result c.loop-i.i c.args.gathering.now c.loop-i.gathering c.args.memory.now c.loop-i.memory c.in_err-add_row.field-0.0 c.loop-i-test.true c.loop-i.invariant c.in_err-add_row.ensures)
 
 pub loop-i-preserved : goal.loop-i-preserved
 loop-i-preserved g c =
-    rows_on (g.R.Rule.ruling c.args.self.now.exchange.rule) c.args.self.now.exchange.seal c.args.statement _ c.loop-i.i _ _ _ _ _ _ c.loop-i-test.true c.loop-i.invariant c.in-ok-add-row.ensures
+    rows_on (g.R.Rule.ruling c.args.self.now.exchange.rule) c.args.self.now.exchange.seal c.args.statement _ c.loop-i.i _ _ _ _ _ _ c.loop-i-test.true c.loop-i.invariant c.in_ok-add_row.ensures
 
 pub returns : goal.returns
 returns g c =

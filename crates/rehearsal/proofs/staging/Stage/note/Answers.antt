@@ -14,8 +14,8 @@ returns-in-Ok g c =
     record {
       answer =
           ap Ok (c.used-row.ensures ∙ ap (λ (s : Register). s.used) c.seal.ensures)
-          ∙ note_told r q ss (meant c.args.event) c.in-ok-at.at c.capped-house.result c.digest-noted.result (Ok c.in-Ok.field-0) few c.in-ok-at.ensures.answer c.capped-house.ensures c.digest-noted.ensures c.in-Ok.ensures.answer;
-      stations = note_stood r q ss (meant c.args.event) c.in-ok-at.at c.capped-house.result c.digest-noted.result c.note.new.station few c.in-ok-at.ensures.answer c.capped-house.ensures c.digest-noted.ensures c.in-Ok.ensures.station;
+          ∙ note_told r q ss (meant c.args.event) c.in_ok-at.at c.capped-house.result c.digest-noted.result (Ok c.in-Ok.field-0) few c.in_ok-at.ensures.answer c.capped-house.ensures c.digest-noted.ensures c.in-Ok.ensures.answer;
+      stations = note_stood r q ss (meant c.args.event) c.in_ok-at.at c.capped-house.result c.digest-noted.result c.note.new.station few c.in_ok-at.ensures.answer c.capped-house.ensures c.digest-noted.ensures c.in-Ok.ensures.station;
       rule = c.in-Ok.ensures.rule;
     }
 
@@ -27,7 +27,7 @@ returns-in-Err g c =
     let ss = c.args.self.now.stations in
     let few = (g.met.R.Rule.lawful rule).most in
     record {
-      answer = note_told r q ss (meant c.args.event) c.in-ok-at.at c.capped-house.result c.digest-noted.result (Err c.in-Err.refused) few c.in-ok-at.ensures.answer c.capped-house.ensures c.digest-noted.ensures c.in-Err.ensures.answer;
-      stations = note_stood r q ss (meant c.args.event) c.in-ok-at.at c.capped-house.result c.digest-noted.result c.note.new.station few c.in-ok-at.ensures.answer c.capped-house.ensures c.digest-noted.ensures c.in-Err.ensures.station;
+      answer = note_told r q ss (meant c.args.event) c.in_ok-at.at c.capped-house.result c.digest-noted.result (Err c.in-Err.refused) few c.in_ok-at.ensures.answer c.capped-house.ensures c.digest-noted.ensures c.in-Err.ensures.answer;
+      stations = note_stood r q ss (meant c.args.event) c.in_ok-at.at c.capped-house.result c.digest-noted.result c.note.new.station few c.in_ok-at.ensures.answer c.capped-house.ensures c.digest-noted.ensures c.in-Err.ensures.station;
       rule = c.in-Err.ensures.rule;
     }

@@ -3,8 +3,8 @@ use Rattle.std.proofs.lemmas.Bool.{le-ltb}
 use Rattle.seal.proofs.Shares.{shares_length, shares_sum}
 use Rattle.seal.proofs.register.Register.begun.Goals as goal
 
-pub invariant-of-result : goal.invariant-of-result
-invariant-of-result c =
+pub invariant_of-result : goal.invariant_of-result
+invariant_of-result c =
     let houses = c.args.houses in
     let each = c.args.each in
     let left : List ℕ = c.share.result in

@@ -4,13 +4,13 @@ use Rattle.seal.specs.Rows.{most_rows}
 use Rattle.seal.specs.Entering.{next_within, room_kept, ordered_kept}
 use Rattle.seal.proofs.register.Register.enter.Goals as goal
 
-pub index-mut-requires : goal.index-mut-requires
-index-mut-requires c =
+pub index_mut-requires : goal.index_mut-requires
+index_mut-requires c =
     let s = c.args.self.now in
     next_within s.houses s.used s.left c.args.house s.rows.len c.requires s.room
 
-pub invariant-of-self : goal.invariant-of-self
-invariant-of-self c =
+pub invariant_of-self : goal.invariant_of-self
+invariant_of-self c =
     let s = c.args.self.now in
     let house = c.args.house in
     let next : s.used < s.rows.len = next_within s.houses s.used s.left house s.rows.len c.requires s.room in

@@ -1,5 +1,5 @@
 use Rattle.seal.specs.RowsLemmas.{none_used}
 use Rattle.seal.proofs.table.Table.new.Goals as goal
 
-pub invariant-of-result : goal.invariant-of-result
-invariant-of-result c = let h = c.in-ok-rows.ensures.items-if-clones-equal (λ _ e. e) in (λ k. none_used _ _ h k, tt)
+pub invariant_of-result : goal.invariant_of-result
+invariant_of-result c = let h = c.in_ok-rows.ensures.items-if-clones-equal (λ _ e. e) in (λ k. none_used _ _ h k, tt)
