@@ -4,25 +4,25 @@ use Rattle.rehearsal.proofs.events.parse.Goals as goal
 use Rattle.rehearsal.proofs.events.parse.Goals.{then-not-fits-via-then-not-fits, then-not-fits-via-else-not-fits+then-not-is_text}
 
 pub returns-in_err-parts : goal.returns-in_err-parts
-returns-in_err-parts c = rw c.from-residual.ensures (no_fields _ c.in_err-parts.ensures)
+returns-in_err-parts c = rw c.from_residual.ensures (no_fields _ c.in_err-parts.ensures)
 
 pub returns-in_err-call : goal.returns-in_err-call
 returns-in_err-call c =
-    rw c.from-residual-in_err-call.ensures (line_no_call _ _ c.in_ok-parts.ensures c.in_err-call.ensures)
+    rw c.from_residual-in_err-call.ensures (line_no_call _ _ c.in_ok-parts.ensures c.in_err-call.ensures)
 
 pub returns-in_err-at : goal.returns-in_err-at
 returns-in_err-at c =
-    rw c.from-residual-in_err-at.ensures
+    rw c.from_residual-in_err-at.ensures
     (line_no_at _ _ _ c.in_ok-parts.ensures c.in_ok-call.ensures c.in_err-at.ensures)
 
 pub returns-in_err-house : goal.returns-in_err-house
 returns-in_err-house c =
-    rw c.from-residual-in_err-house.ensures
+    rw c.from_residual-in_err-house.ensures
     (line_no_house _ _ _ _ c.in_ok-parts.ensures c.in_ok-call.ensures c.in_ok-at.ensures c.in_err-house.ensures)
 
 pub returns-in_err-number : goal.returns-in_err-number
 returns-in_err-number c =
-    rw c.from-residual-in_err-number.ensures
+    rw c.from_residual-in_err-number.ensures
     (line_no_number _ _ _ _ _ c.in_ok-parts.ensures c.in_ok-call.ensures c.in_ok-at.ensures c.in_ok-house.ensures c.in_err-number.ensures)
 
 pub returns-then-not-fits : goal.returns-then-not-fits

@@ -6,16 +6,16 @@ returns-then-input-gt-MOST-INPUT c = too_long _ c.if-input-gt-MOST-INPUT.true
 
 pub returns-in_err-first : goal.returns-in_err-first
 returns-in_err-first c =
-    rw c.from-residual.ensures (opening_1 _ c.if-input-gt-MOST-INPUT.false c.in_err-first.ensures.parts)
+    rw c.from_residual.ensures (opening_1 _ c.if-input-gt-MOST-INPUT.false c.in_err-first.ensures.parts)
 
 pub returns-in_err-second : goal.returns-in_err-second
 returns-in_err-second c =
-    rw c.from-residual-in_err-second.ensures
+    rw c.from_residual-in_err-second.ensures
     (opening_2 _ _ _ c.if-input-gt-MOST-INPUT.false c.in_ok-first.ensures.parts c.in_err-second.ensures.parts)
 
 pub returns-in_err-third : goal.returns-in_err-third
 returns-in_err-third c =
-    rw c.from-residual-in_err-third.ensures
+    rw c.from_residual-in_err-third.ensures
     (opening_3 _ _ _ _ _ c.if-input-gt-MOST-INPUT.false c.in_ok-first.ensures.parts c.in_ok-second.ensures.parts c.in_err-third.ensures.parts)
 
 pub returns-then-lines-gt-MOST-EVENTS : goal.returns-then-lines-gt-MOST-EVENTS

@@ -17,7 +17,7 @@ pub returns-in_err-met : goal.returns-in_err-met
 returns-in_err-met g c =
     let stop = walk_stops (g.R.Rule.ruling c.args.self.now.rule) g.S.Seal.meaning c.args.self.now.seal c.args.bundle.now c.args.count c.loop-i.i c.loop-i.met c.in_err-met.field-0.0 c.loop-i-test.true c.loop-i.invariant
     (sym (this_from (g.R.Rule.ruling c.args.self.now.rule) g.S.Seal.meaning c.args.self.now.seal c.args.bundle.now c.args.statement c.seal_len-size.result c.receipt_from-receipt.result.house c.loop-i.i c.loop-i.met _ c.requires.0 c.seal_len-size.ensures c.receipt_from-receipt.ensures.house c.receipt_from-receipt.ensures.seal) ∙ sym c.take.ensures ∙ c.in_err-met.was) in
-    let exit = err_from_is_err_and c.from-residual.result c.from-residual.ensures.1 in
+    let exit = err_from_is_err_and c.from_residual.result c.from_residual.ensures.1 in
     exit.1 ∙ ap Err exit.2 ∙ sym stop
 
 pub loop-i-preserved : goal.loop-i-preserved

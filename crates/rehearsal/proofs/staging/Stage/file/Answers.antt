@@ -11,7 +11,7 @@ returns-in_err-length g c =
     let few = (g.met.R.Rule.lawful rule).most in
     let r = g.R.Rule.ruling rule in
     let q = c.args.self.now.exchange.seal in
-    let p = err_from_is_err_and c.from-residual-in_err-length.result c.from-residual-in_err-length.ensures.1 in
+    let p = err_from_is_err_and c.from_residual-in_err-length.result c.from_residual-in_err-length.ensures.1 in
     record {
       answer = rw (p.1, p.2) (file_unbundled r q c.args.self.now.stations (meant c.args.event) c.in_ok-at.at c.capped-house.result c.digest.result c.in_err-length.field-0.0 few c.in_ok-at.ensures.answer c.capped-house.ensures c.digest.ensures c.in_err-length.ensures.answer);
       exchange = refl;

@@ -10,7 +10,7 @@ returns-in_err-add_row g c =
     let r = g.R.Rule.ruling c.args.self.now.exchange.rule in
     let q = c.args.self.now.exchange.seal in
     let u = c.used-used.ensures ∙ ap (λ (s : Register). s.used) c.seal.ensures in
-    let p = err_from_is_err_and c.from-residual.result c.from-residual.ensures.1 in
+    let p = err_from_is_err_and c.from_residual.result c.from_residual.ensures.1 in
     rw (p.1, p.2)
     (sym (ap (λ (k : ℕ). rows_from r q c.args.statement k 0 c.args.gathering.now c.args.memory.now) u)
     ∙ rows_stop r q c.args.statement c.used-used.result c.loop-i.i c.args.gathering.now c.loop-i.gathering c.args.memory.now c.loop-i.memory c.in_err-add_row.field-0.0 c.loop-i-test.true c.loop-i.invariant c.in_err-add_row.ensures)
