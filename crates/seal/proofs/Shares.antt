@@ -1,7 +1,7 @@
 -- Laws of the numbers of seals that are shared out, one house at a time.
 use Rattle.std.proofs.Common.{◌≡◌, ℕ, zero, suc, ◌+◌, ◌-◌, ◌*◌, ◌<◌, ◌≤◌, List, [], ◌∷◌, ◌++◌, length, set, replicate, sum, sym, refl, ap, ◌∙◌, ap₂, add-zero, suc-mul, add_comm, mul-zero, zero-mul, arith}
 use Rattle.std.proofs.lemmas.List.{append_assoc, set_at, replicate_more, length-append, length-replicate}
-use Rattle.std.proofs.lemmas.List.Sums.{sum_by_append, sum_by_cons}
+use Rattle.std.proofs.lemmas.List.Sums.{sum_by-append, sum_by-cons}
 use Rattle.seal.specs.Houses.{most_houses, shares}
 
 pub shares_none : (each : ℕ) → replicate most_houses 0 ≡ shares 0 each
@@ -28,7 +28,7 @@ shares_length n each h =
 sum_replicate : (n each : ℕ) → sum (replicate n each) ≡ n * each
 sum_replicate zero each = sym (zero-mul each)
 sum_replicate (suc n) each =
-    sum_by_cons (λ (x : ℕ). x) each (replicate n each)
+    sum_by-cons (λ (x : ℕ). x) each (replicate n each)
     ∙ ap (λ (v : ℕ). each + v) (sum_replicate n each)
     ∙ add_comm each (n * each)
     ∙ sym (suc-mul n each)
@@ -36,6 +36,6 @@ sum_replicate (suc n) each =
 pub shares_sum : (n each : ℕ) → sum (shares n each) ≡ n * each
 unfolding shares
 shares_sum n each =
-    sum_by_append (λ (x : ℕ). x) (replicate n each) (replicate (most_houses - n) 0)
+    sum_by-append (λ (x : ℕ). x) (replicate n each) (replicate (most_houses - n) 0)
     ∙ ap₂ (λ (a b : ℕ). a + b) (sum_replicate n each) (sum_replicate (most_houses - n) 0 ∙ mul-zero (most_houses - n))
     ∙ add-zero (n * each)

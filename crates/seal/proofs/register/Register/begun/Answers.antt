@@ -8,10 +8,10 @@ invariant_of-result c =
     let houses = c.args.houses in
     let each = c.args.each in
     let left : List ℕ = c.share.result in
-    let all = ap sum c.share.ensures ∙ shares_sum houses each in (
-      omega arith,
-      (
-        ap length c.share.ensures ∙ shares_length houses each (omega arith),
-        (omega arith, (omega arith, (λ k. c.args.table.unused k ∙ sym (le-ltb k 0 zero-le), tt))),
-      ),
-    )
+    let all = ap sum c.share.ensures ∙ shares_sum houses each in record {
+      few = omega arith;
+      counted = ap length c.share.ensures ∙ shares_length houses each (omega arith);
+      room = omega arith;
+      numbered = omega arith;
+      ordered = λ k. c.args.table.unused k ∙ sym (le-ltb k 0 zero-le);
+    }

@@ -14,16 +14,10 @@ invariant_of-self c =
     let s = c.args.self.now in
     let house = c.args.house in
     let next : s.used < s.rows.len = next_within s.houses s.used s.left house s.rows.len c.requires s.room in
-    let within : s.used < length s.rows.items = omega (arith, s.rows.ok.0) in (
-      s.few,
-      (
-        length-set s.left house _ ∙ s.counted,
-        (
-          room_kept s.houses s.used s.left house s.rows.len c.requires s.room,
-          (
-            room_kept s.houses s.used s.left house most_rows c.requires s.numbered,
-            (ordered_kept s.rows.items s.used house c.args.statement within s.ordered, tt),
-          ),
-        ),
-      ),
-    )
+    let within : s.used < length s.rows.items = omega (arith, s.rows.ok.0) in record {
+      few = s.few;
+      counted = length-set s.left house _ ∙ s.counted;
+      room = room_kept s.houses s.used s.left house s.rows.len c.requires s.room;
+      numbered = room_kept s.houses s.used s.left house most_rows c.requires s.numbered;
+      ordered = ordered_kept s.rows.items s.used house c.args.statement within s.ordered;
+    }
