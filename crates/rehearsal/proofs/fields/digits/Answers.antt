@@ -8,15 +8,15 @@ returns-then-byte-lt48 c =
     let no : passes c.loop-byte.value (get_or c.args.field.now c.loop-byte.byte-index 0) ≡ false = grind (arith, nat_tests) in
     sym (c.loop-byte.invariant.1 ∙ read_no c.loop-byte.value c.args.field.now c.loop-byte.byte-index c.loop-byte-test.true no)
 
-pub returns-then-value-gt-MOST-NUMBER : goal.returns-then-value-gt-MOST-NUMBER
-returns-then-value-gt-MOST-NUMBER c =
+pub returns-then-value-gt-MOST_NUMBER : goal.returns-then-value-gt-MOST_NUMBER
+returns-then-value-gt-MOST_NUMBER c =
     let no : passes c.loop-byte.value (get_or c.args.field.now c.loop-byte.byte-index 0) ≡ false = grind (arith, nat_tests) in
     sym (c.loop-byte.invariant.1 ∙ read_no c.loop-byte.value c.args.field.now c.loop-byte.byte-index c.loop-byte-test.true no)
 
 pub loop-byte-preserved : goal.loop-byte-preserved
 loop-byte-preserved c =
     let yes : passes c.loop-byte.value (get_or c.args.field.now c.loop-byte.byte-index 0) ≡ true = grind (arith, nat_tests) in
-    (c.if-value-gt-MOST-NUMBER.false, c.loop-byte.invariant.1 ∙ read_yes c.loop-byte.value c.args.field.now c.loop-byte.byte-index c.loop-byte-test.true yes)
+    (c.if-value-gt-MOST_NUMBER.false, c.loop-byte.invariant.1 ∙ read_yes c.loop-byte.value c.args.field.now c.loop-byte.byte-index c.loop-byte-test.true yes)
 
 pub returns : goal.returns
 returns c = sym (c.loop-byte.invariant.1 ∙ read_end c.loop-byte.value c.args.field.now c.loop-byte.byte-index c.loop-byte-test.false)

@@ -3,7 +3,7 @@ use Rattle.std.proofs.lemmas.Bool.Decides.{nat_tests}
 use Rattle.rehearsal.specs.Openings.{end_count, line_count}
 use Rattle.rehearsal.proofs.Steps.{ends_yes, ends_no, ends_few, ends_all}
 use Rattle.rehearsal.proofs.opening.lines.Goals as goal
-use Rattle.rehearsal.proofs.opening.lines.Goals.{then-byte-eq-LINE-END, else-byte-eq-LINE-END}
+use Rattle.rehearsal.proofs.opening.lines.Goals.{then-byte-eq-LINE_END, else-byte-eq-LINE_END}
 
 pub loop-byte-init : goal.loop-byte-init
 unfolding end_count
@@ -14,22 +14,22 @@ overflow_add-ends c = omega (arith, c.loop-byte.invariant, ends_few c.args.bytes
 
 pub loop-byte-preserved : goal.loop-byte-preserved
 loop-byte-preserved c =
-    elim c.if-byte-eq-LINE-END.branch [
-      | then-byte-eq-LINE-END w ↦ omega (arith, c.loop-byte.invariant, w.ends-is, ends_yes c.args.bytes.now c.loop-byte.byte-index c.loop-byte-test.true w.if-byte-eq-LINE-END.true)
-      | else-byte-eq-LINE-END w ↦ omega (arith, c.loop-byte.invariant, w.ends-is, ends_no c.args.bytes.now c.loop-byte.byte-index c.loop-byte-test.true w.if-byte-eq-LINE-END.false)
+    elim c.if-byte-eq-LINE_END.branch [
+      | then-byte-eq-LINE_END w ↦ omega (arith, c.loop-byte.invariant, w.ends-is, ends_yes c.args.bytes.now c.loop-byte.byte-index c.loop-byte-test.true w.if-byte-eq-LINE_END.true)
+      | else-byte-eq-LINE_END w ↦ omega (arith, c.loop-byte.invariant, w.ends-is, ends_no c.args.bytes.now c.loop-byte.byte-index c.loop-byte-test.true w.if-byte-eq-LINE_END.false)
     ]
 
 pub overflow_add-result : goal.overflow_add-result
 overflow_add-result c = omega (arith, c.loop-byte.invariant, ends_few c.args.bytes.now c.loop-byte.byte-index, c.requires)
 
-pub returns-then-bytes_eq-LINE-END : goal.returns-then-bytes_eq-LINE-END
+pub returns-then-bytes-eq-LINE_END : goal.returns-then-bytes-eq-LINE_END
 unfolding line_count
-returns-then-bytes_eq-LINE-END c =
+returns-then-bytes-eq-LINE_END c =
     let e : end_count (take c.loop-byte.byte-index c.args.bytes.now) ≡ end_count c.args.bytes.now = ends_all c.args.bytes.now c.loop-byte.byte-index c.loop-byte-test.false in
     grind (arith, nat_tests)
 
-pub returns-else-bytes_eq-LINE-END : goal.returns-else-bytes_eq-LINE-END
+pub returns-else-bytes-eq-LINE_END : goal.returns-else-bytes-eq-LINE_END
 unfolding line_count
-returns-else-bytes_eq-LINE-END c =
+returns-else-bytes-eq-LINE_END c =
     let e : end_count (take c.loop-byte.byte-index c.args.bytes.now) ≡ end_count c.args.bytes.now = ends_all c.args.bytes.now c.loop-byte.byte-index c.loop-byte-test.false in
     grind (arith, nat_tests)

@@ -1,5 +1,7 @@
-use Rattle.seal.specs.RowsLemmas.{compared}
+-- The derived test asks what the definition asks, in its order.
+use Rattle.seal.specs.Rows.{same_statement}
 use Rattle.rehearsal.proofs.staging.same.Goals as goal
 
 pub returns : goal.returns
-returns c = compared c.args.x c.args.y c.eq.result c.eq.ensures
+unfolding same_statement
+returns c = c.eq.ensures
