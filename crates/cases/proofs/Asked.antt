@@ -1,9 +1,8 @@
 -- All that file asks before the receipts, of a bundle whose head is sound.
-use Rattle.std.proofs.Common.{◌≡◌, ℕ, ◌+◌, ◌<◌, ◌≤◌, true, eqb, ltb, leb, List, length, get_or, Ok, refl, ap, ◌∙◌, arith}
-use Rattle.std.proofs.lemmas.Bool.{lt-ltb, le-leb, eq-eqb, and_from}
+use Rattle.std.proofs.Common.{◌≡◌, ℕ, ◌+◌, ◌<◌, ◌≤◌, true, eqb, ltb, leb, List, length, Ok, refl, ap, ◌∙◌, arith}
+use Rattle.std.proofs.lemmas.Bool.{lt-ltb, le-leb, eq-eqb}
 use Rattle.refusal.specs.Questions.{whole}
 use Rattle.refusal.specs.declared.Refusal.TheVariants.{StationHouse, PagesTooLong, NoSuchHouse, NumberPast, NumberAhead, BundleTooShort, OtherRule, OtherPages, BundleLength}
-use Rattle.sha256.specs.declared.value.Digest.{Digest}
 use Rattle.sha256.specs.Text.{digest_of}
 use Rattle.edition.specs.Pages.{most_bytes}
 use Rattle.witness.specs.Rules.{Ruling}

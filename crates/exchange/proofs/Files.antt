@@ -1,5 +1,5 @@
 -- What a taken file says of the bundle, the station and the pages; and that with all of it a file is taken.
-use Rattle.std.proofs.Common.{◌≡◌, ℕ, ◌+◌, true, eqb, ltb, leb, List, length, Ok, Err, Result, sym, refl, ap, ◌∙◌}
+use Rattle.std.proofs.Common.{◌≡◌, ℕ, ◌+◌, true, eqb, ltb, leb, List, length, Ok, Err, Result, sym, ap, ◌∙◌}
 use Rattle.refusal.specs.Questions.{ask, after, whole}
 use Rattle.refusal.specs.declared.Refused.{Refused}
 use Rattle.refusal.specs.declared.Refusal.TheVariants.{StationHouse, PagesTooLong, NoSuchHouse, NumberPast, NumberAhead, NotAccepted, BundleTooShort, OtherRule, OtherPages, BundleLength}

@@ -5,7 +5,7 @@ use Rattle.seal.specs.Meanings.{Meaning, Meant}
 use Rattle.exchange.specs.declared.station.Station.{Station}
 use Rattle.exchange.specs.Stations.{row_of}
 use Rattle.exchange.specs.Runs.{Event, World, Run}
-use Rattle.exchange.specs.Law.{numbers, Honest, Conditions, Unforged, Holds, Law}
+use Rattle.exchange.specs.Law.{numbers, Honest, Conditions, Law}
 use Rattle.exchange.proofs.Stations.{station_house, last_filed}
 use Rattle.exchange.proofs.Agreement.{agreement, order, honesty}
 use Rattle.exchange.proofs.Progress.{closes, issued_files, filed_files, reads_back}

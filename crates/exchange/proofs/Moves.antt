@@ -2,7 +2,7 @@
 use Rattle.std.proofs.Common.{◌≡◌, ℕ, ◌+◌, ◌<◌, ◌≤◌, true, false, ◌&&◌, eqb, ltb, leb, ◌≢◌, ◌⊎◌, List, ◌∷◌, length, Ok, Err, Result, sym, refl, ap, ◌∙◌, subst, inl, inr}
 use Rattle.std.proofs.lemmas.Bool.{and_from, and_left, and_right, cond_both, cond-false, cond-true, eqb-false, eqb-true, eq-eqb, leb-true, ltb-true, ne_eqb}
 use Rattle.refusal.specs.Questions.{after, whole}
-use Rattle.refusal.specs.declared.Refusal.TheVariants.{StationHouse, NoSuchHouse, NumberPast, NumberAhead, NotNamed, AlreadyNoted, OtherDigestNoted, NotAccepted}
+use Rattle.refusal.specs.declared.Refusal.TheVariants.{StationHouse, NoSuchHouse, NumberPast, NumberAhead, NotNamed, AlreadyNoted, OtherDigestNoted}
 use Rattle.sha256.specs.declared.value.Digest.{Digest}
 use Rattle.witness.specs.Rules.{Ruling}
 use Rattle.seal.specs.declared.statement.Statement.{Statement}
@@ -10,8 +10,8 @@ use Rattle.seal.specs.Meanings.{Meaning}
 use Rattle.exchange.specs.declared.station.Station.{Station}
 use Rattle.exchange.specs.declared.filing.Filing.{Filing}
 use Rattle.exchange.specs.Stations.{row_of, slot_of, is_empty, free_of_other, noted_row, filed_row, with_row}
-use Rattle.exchange.specs.Layout.{bundle_house, bundle_number, bundle_count}
-use Rattle.exchange.specs.Machine.{member, window, statement_of, announce_answer, note_questions, note_answer, note_station, walk, file_questions, file_answer, file_station}
+use Rattle.exchange.specs.Layout.{bundle_house, bundle_number}
+use Rattle.exchange.specs.Machine.{member, window, statement_of, announce_answer, note_questions, note_answer, note_station, file_answer, file_station}
 use Rattle.exchange.specs.Runs.{Event, announced, noted, started, added, closed, issued, filed, signed, World, put, Step}
 use Rattle.exchange.specs.Law.{Signs, numbers}
 use Rattle.exchange.proofs.Questions.{asked, went_on}

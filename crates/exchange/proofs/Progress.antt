@@ -22,11 +22,11 @@ use Rattle.exchange.specs.declared.gathering.Gathering.{Gathering}
 use Rattle.exchange.specs.declared.gathering.Closed.{Closed}
 use Rattle.exchange.specs.declared.filing.Filing.{Filing}
 use Rattle.exchange.specs.Stations.{row_of}
-use Rattle.exchange.specs.Layout.{bundle_house, bundle_number, bundle_digest, bundle_count}
-use Rattle.exchange.specs.Machine.{gathering_statement, walk, file_questions, file_answer}
+use Rattle.exchange.specs.Layout.{bundle_house, bundle_number, bundle_digest}
+use Rattle.exchange.specs.Machine.{gathering_statement}
 use Rattle.exchange.specs.Runs.{Event, announced, noted, started, added, closed, issued, filed, signed, Held, none, open_with, closed_with, gone, World, Step, Run, Some}
 use Rattle.exchange.specs.Law.{Taken, Starts, Adds, Issues, Fed, FilesFrom, Honest, brought, numbers, receipts_in}
-use Rattle.exchange.proofs.Questions.{asked, yes_to, went_on}
+use Rattle.exchange.proofs.Questions.{yes_to}
 use Rattle.exchange.proofs.Files.{Fit, Due, file_taken, fit_files, filed_as}
 use Rattle.exchange.proofs.Gatherings.{Going, Done, State, stands}
 use Rattle.exchange.proofs.Growing.{step_grows}

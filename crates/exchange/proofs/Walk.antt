@@ -1,5 +1,5 @@
 -- Laws of the walk over a bundle's receipts, one receipt at a time.
-use Rattle.std.proofs.Common.{◌≡◌, ℕ, zero, suc, ◌+◌, ◌-◌, ◌*◌, ◌^◌, ◌<◌, ◌≤◌, true, not, ltb, List, Ok, Err, Result, refl, ap, ◌∙◌, ap₂, mul-le-mul_right, arith}
+use Rattle.std.proofs.Common.{◌≡◌, ℕ, suc, ◌+◌, ◌-◌, ◌^◌, ◌<◌, ◌≤◌, true, not, ltb, List, Ok, Err, Result, refl, ap, ◌∙◌, ap₂, mul-le-mul_right, arith}
 use lib.Bits.{bit_or}
 use Rattle.refusal.specs.declared.Refused.{Refused}
 use Rattle.refusal.specs.declared.Refusal.TheVariants.{NoSuchHouse, NotNamed, ReceiptRepeated, SealFails}

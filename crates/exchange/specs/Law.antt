@@ -1,5 +1,5 @@
 -- The law over all runs: agreement, order and honesty, progress.
-use Rattle.std.specs.Prelude.{◌≡◌, ℕ, zero, suc, ◌+◌, ◌<◌, ◌≤◌, Bool, true, cond, ◌&&◌, List, [], ◌∷◌, ◌++◌, length, take, Ok, Err, MatchBool, Result, ◌==◌}
+use Rattle.std.specs.Prelude.{◌≡◌, ℕ, zero, suc, ◌+◌, ◌<◌, ◌≤◌, true, cond, ◌&&◌, List, [], ◌∷◌, ◌++◌, length, take, Ok, Err, MatchBool, Result, ◌==◌}
 use Rattle.bits.specs.Bits.{has}
 use Rattle.refusal.specs.declared.Refused.{Refused}
 use Rattle.sha256.specs.declared.value.Digest.{Digest}

@@ -1,5 +1,5 @@
 -- Histories of calls, and the worlds that they lead to.
-use Rattle.std.specs.Prelude.{◌≡◌, ℕ, Bool, true, cond, ◌⊎◌, List, [], ◌∷◌, length, Ok, Err, Result, ◌==◌}
+use Rattle.std.specs.Prelude.{◌≡◌, ℕ, cond, ◌⊎◌, List, [], ◌∷◌, length, Result, ◌==◌}
 use Rattle.refusal.specs.Questions.{after}
 use Rattle.refusal.specs.declared.Refused.{Refused}
 use Rattle.sha256.specs.declared.value.Digest.{Digest}

@@ -1,5 +1,5 @@
 -- Stations, rows and slots.
-use Rattle.std.specs.Prelude.{ℕ, ◌+◌, ◌-◌, Bool, true, false, ◌&&◌, List, [], ◌∷◌, replicate, Ok, Result, ◌==◌, nat_lt, slice_index, slice_index_or, slice_set}
+use Rattle.std.specs.Prelude.{ℕ, ◌+◌, ◌-◌, Bool, true, false, ◌&&◌, [], ◌∷◌, replicate, Ok, Result, ◌==◌, nat_lt, slice_index, slice_index_or, slice_set}
 use Rattle.refusal.specs.Questions.{ask, whole}
 use Rattle.refusal.specs.declared.Refused.{Refused}
 use Rattle.refusal.specs.declared.Refusal.TheVariants.{StationHouse}

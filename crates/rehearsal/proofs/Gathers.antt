@@ -1,5 +1,5 @@
 -- The rows of the register, one at a time.
-use Rattle.std.proofs.Common.{◌≡◌, ℕ, suc, ◌+◌, ◌-◌, ◌<◌, ◌≤◌, List, Ok, Err, Result, sym, refl, ap, ◌∙◌, arith}
+use Rattle.std.proofs.Common.{◌≡◌, ℕ, suc, ◌+◌, ◌-◌, ◌<◌, ◌≤◌, List, Ok, Err, Result, ap, ◌∙◌, arith}
 use Rattle.refusal.specs.declared.Refused.{Refused}
 use Rattle.witness.specs.Rules.{Ruling}
 use Rattle.seal.specs.declared.register.Register.{Register}

@@ -1,12 +1,11 @@
 -- What a line's parts come to, step by step.
-use Rattle.std.proofs.Common.{◌≡◌, ℕ, ◌<◌, ◌≤◌, Bool, true, false, cond, ◌&&◌, leb, List, length, Some, None, codes, Option, sym, refl, ap, ◌∙◌, le-leb}
+use Rattle.std.proofs.Common.{◌≡◌, ℕ, ◌<◌, ◌≤◌, Bool, true, false, cond, ◌&&◌, leb, List, length, Some, None, Option, sym, refl, ap, ◌∙◌, le-leb}
 use borrow.Author.Tests.{lt-leb}
-use Rattle.std.specs.Str.{bytes_eq}
 use Rattle.rehearsal.specs.declared.events.Call.{Call}
 use Rattle.rehearsal.specs.declared.opening.Mark.{Mark}
 use Rattle.rehearsal.specs.Fields.{and_then, cut_at, number_of_field, text_field}
 use Rattle.rehearsal.specs.Events.{Meant, Fields, call_of_word, fitting, fields_of, event_of_fields, event_of}
-use Rattle.rehearsal.specs.Openings.{Begin, rule_of, line_count, are_names, numbers_of, opening_of}
+use Rattle.rehearsal.specs.Openings.{rule_of, line_count, are_names, numbers_of, opening_of}
 
 pub goes : {A B : Type 0} (o : Option A) (f : A → Option B) (x : A) → o ≡ Some x → and_then o f ≡ f x
 goes o f x e = rw e

@@ -9,7 +9,6 @@ use Rattle.seal.specs.declared.statement.Statement.{Statement}
 use Rattle.seal.specs.Registers.{register, row_at}
 use Rattle.seal.specs.Rows.{entry_of, same_statement, row_bytes}
 use Rattle.exchange.specs.declared.gathering.Gathering.{Gathering}
-use Rattle.exchange.specs.declared.gathering.Closed.{Closed}
 use Rattle.exchange.specs.Machine.{go_on, statement_of, start_answer, add_answer, add_gathering, add_memory, close_answer, issue_answer, issue_memory}
 
 -- what an add leaves, where it is taken

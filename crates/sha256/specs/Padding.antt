@@ -1,5 +1,5 @@
 -- Padding and parsing of a message of bytes (FIPS 180-4, 5.1.1 and 5.2.1).
-use Rattle.std.specs.Prelude.{ℕ, ◌+◌, ◌-◌, ◌*◌, ◌/◌, ◌%◌, ◌^◌, List, [], ◌∷◌, ◌++◌, length, take, drop, replicate}
+use Rattle.std.specs.Prelude.{ℕ, ◌-◌, ◌*◌, ◌/◌, ◌%◌, ◌^◌, List, [], ◌∷◌, ◌++◌, length, take, drop, replicate}
 
 -- a 64-bit number's bytes, the most significant first
 abbrev pub bytes8 : ℕ → List ℕ

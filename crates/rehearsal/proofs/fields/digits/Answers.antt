@@ -1,6 +1,6 @@
 use Rattle.std.proofs.Common.{◌≡◌, true, false, get_or, sym, ◌∙◌, arith}
 use Rattle.std.proofs.lemmas.Bool.Decides.{nat_tests}
-use Rattle.rehearsal.proofs.Steps.{passes, read_step, read_yes, read_no, read_end}
+use Rattle.rehearsal.proofs.Steps.{passes, read_yes, read_no, read_end}
 use Rattle.rehearsal.proofs.fields.digits.Goals as goal
 
 pub returns-then-byte-lt48 : goal.returns-then-byte-lt48

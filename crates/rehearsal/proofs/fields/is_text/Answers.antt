@@ -1,4 +1,4 @@
-use Rattle.std.proofs.Common.{arith, rules}
+use Rattle.std.proofs.Common.{arith}
 use Rattle.std.proofs.lemmas.Bool.Decides.{nat_tests}
 use Rattle.rehearsal.specs.Fields.{text_field}
 use Rattle.rehearsal.proofs.fields.is_text.Goals as goal

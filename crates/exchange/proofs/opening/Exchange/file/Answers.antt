@@ -1,7 +1,6 @@
-use Rattle.std.proofs.Common.{◌≡◌, ℕ, ◌+◌, ◌<◌, ◌≤◌, true, false, List, Ok, Err, Result, sym, ap, ◌∙◌, ap₂, arith, rules}
+use Rattle.std.proofs.Common.{ℕ, ◌+◌, List, Err, sym, ap, ◌∙◌, arith}
 use Rattle.std.proofs.lemmas.Bool.{eqb-true, ltb-true}
-use Rattle.refusal.specs.Questions.{ask, whole}
-use Rattle.refusal.specs.declared.Refused.{Refused}
+use Rattle.refusal.specs.Questions.{whole}
 use Rattle.refusal.specs.declared.Refusal.TheVariants.{NotAccepted}
 use Rattle.seal.specs.declared.statement.Statement.{Statement}
 use Rattle.exchange.specs.declared.station.Station.{Station}

@@ -1,6 +1,5 @@
-use Rattle.std.proofs.Common.{◌≡◌, ℕ, ◌+◌, true, false, eqb, ltb, leb, List, length, Ok, Err, sym, ap, ◌∙◌, ap₂, arith, rules, eq-eqb}
+use Rattle.std.proofs.Common.{◌≡◌, ℕ, ◌+◌, true, false, eqb, ltb, leb, List, length, Err, sym, ap, ◌∙◌, ap₂, arith, rules, eq-eqb}
 use Rattle.sha256.specs.Text.{digest_of}
-use Rattle.sha256.specs.declared.value.Digest.{Digest}
 use Rattle.seal.specs.declared.statement.Statement.{Statement}
 use Rattle.edition.specs.Pages.{most_bytes}
 use Rattle.exchange.specs.declared.station.Station.{Station}

@@ -1,4 +1,4 @@
-use Rattle.std.proofs.Common.{ℕ, List, take, Ok, Err, refl, ap}
+use Rattle.std.proofs.Common.{ℕ, take, Ok, Err, refl, ap}
 use native.Mathlib.Nat.{sub-zero}
 use Rattle.std.proofs.lemmas.Result.{err_from_is_err_and}
 use Rattle.rehearsal.specs.Events.{meant}

@@ -1,4 +1,4 @@
-use Rattle.std.proofs.Common.{Ok, Err, refl, ap, ◌∙◌}
+use Rattle.std.proofs.Common.{Ok, Err, ap, ◌∙◌}
 use Rattle.seal.specs.declared.register.Register.{Register}
 use Rattle.rehearsal.specs.Events.{meant}
 use Rattle.rehearsal.proofs.Outcomes.{note_told, note_stood}
