@@ -1,6 +1,5 @@
 mod Receipts
 mod Parting
-mod Parts
 mod Walk
 pub mod Questions
 pub mod Files

@@ -16,7 +16,8 @@ pub struct Row {
     pub(crate) slots: [Slot; 4],
 }
 
-#[derive(Clone, Copy)]
+// It moves and is never copied, so that no earlier state of it can be put back.
+#[derive(Drop)]
 pub struct Station {
     // The house that it belongs to.
     pub(crate) house: u8,
