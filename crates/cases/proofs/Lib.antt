@@ -1,9 +1,7 @@
-pub mod Forging
+mod Forging
 mod Asked
 mod Notes
 mod Bare
 mod Cases
 mod Over
-mod Taken
 mod Example
-mod Dishonest

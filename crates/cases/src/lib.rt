@@ -2,7 +2,6 @@
 #![tactic(auto)]
 
 ghost use Rattle.cases.specs.Cases.{Cases};
-ghost use Rattle.cases.specs.Dishonest.{OneCanBeDishonest, OneCanBeDishonestOpened};
 ghost use Rattle.cases.specs.Filing.{ConditionsCanHold, ConditionsCanHoldOpened};
 ghost use Rattle.cases.specs.Forging.{RegisterUnforged};
 
@@ -13,8 +12,7 @@ mod laws;
 
 pub use laws::{all_over_register, all_over_stamps, rotating_over_register, rotating_over_stamps};
 
-// In every run over a register of which no row was used at the opening, and in which no direct sign for an honest house is taken, every
-// seal of a filed bundle that checks for an honest house is on a statement that a note of it signed.
+// In every run over a register of which no row was used at the opening, what checks for an honest house was signed by a note of it.
 pub fn register_seals_are_not_forged()
     ensures { RegisterUnforged }
 {}
@@ -30,11 +28,4 @@ pub fn cases_of_calls<S: Seal>()
 pub fn a_run_that_files()
     ensures unused { ConditionsCanHold }
     ensures opened { ConditionsCanHoldOpened }
-{}
-
-// They can be met with a house that is not honest: a run of four houses in which one signs two digests for one number, and an honest
-// house refuses the notice of the one and files the other.
-pub fn a_run_with_a_dishonest_house()
-    ensures unused { OneCanBeDishonest }
-    ensures opened { OneCanBeDishonestOpened }
 {}

@@ -35,8 +35,7 @@ module _ (r : Ruling) (first : ℕ → Station) (j n : ℕ) (d : Digest) where
   module _ (honest z : ℕ) (z-honest : Honest r first honest z) (j-honest : Honest r first honest j) where
     fair_now : (c : Event) (h : List Event) → Fair r first honest h c → Signs r first z (statement_of r j n d) c → Some (Answers r first j n d) h
     fair_now (announced a q y) h fair signs = absurd signs
-    fair_now (noted a j' n' d' m (Err e) m') h fair signs = absurd signs.2
-    fair_now (noted a j' n' d' m (Ok t) m') h fair signs =
+    fair_now (noted a j' n' d' m y m') h fair signs =
         subst (λ (x : Statement). Some (Answers r first x.house x.number x.digest) h) signs.1
         (fair (subst (Honest r first honest) (sym signs.0) z-honest)
         (subst (Honest r first honest) (ap (λ (x : Statement). x.house) (sym signs.1)) j-honest))

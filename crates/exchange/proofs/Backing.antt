@@ -17,10 +17,10 @@ use Rattle.exchange.specs.Runs.{Event, announced, noted, started, added, closed,
 use Rattle.exchange.specs.Law.{Signs, Files, Honest, UnforgedNow, Unforged}
 use Rattle.exchange.proofs.Files.{Fit, Due, file_taken, filed_as}
 use Rattle.exchange.proofs.Stations.{Signed}
-use Rattle.exchange.proofs.Walks.{signer_receipted}
+use Rattle.exchange.proofs.Walks.{signer_receipted, receipt_whole}
 
 -- digests of four words that are tested to be the same are the same
-pub digests_same : (x y : Digest) → length x.words ≡ 4 → length y.words ≡ 4 → same_digest x y ≡ true → x ≡ y
+digests_same : (x y : Digest) → length x.words ≡ 4 → length y.words ≡ 4 → same_digest x y ≡ true → x ≡ y
 digests_same x y four other e =
     let word : ℕ → Digest → ℕ = λ i d. get_or d.words i 0 in
     let same : ℕ → Bool = λ i. eqb (word i x) (word i y) in
@@ -58,7 +58,8 @@ module _ (r : Ruling) (first : ℕ → Station) (honest : ℕ) where
           accepted = file.fit.accepted;
           signed = λ z z-honest z-in.
               let receipt = signer_receipted r k w.seal b file.fit z z-in in
-              let signs = unforged receipt.place receipt.before (subst (Honest r first honest) (sym receipt.house) z-honest) receipt.checks in
+              let whole = receipt_whole r k w.seal b file.fit receipt.place receipt.before in
+              let signs = unforged receipt.place receipt.before whole (subst (Honest r first honest) (sym receipt.house) z-honest) receipt.checks in
               subst₂ (λ y x. Some (Signs r first y x) h) receipt.house (bundle_states r k w.seal (w.stations a) b p file.fit file.due) signs;
         }
 

@@ -242,7 +242,7 @@ module _ {S : Type 0} (r : Ruling) (k : Meaning S) where
         (joins g h s i z m m' t x counts (eqb-true (length z) k.size q4.0) (leb-true (receipt_at k.size (ones set + 1)) (length m) q6.0) (left_by (Ok t) _ _ m m' e left) o)
     added_own i z m (Err e) m' x refused left o =
         subst (λ (a : Result (Unit {0}) Refused). Open g (added g i z m (Err e) m' ∷ h) s (after a (λ _. with_house x i) x)) refused
-        (open_keeps g _ h (refused_add g g i z m e m') s s (same_grows k s) x o)
+        (open_keeps g _ h (refused_add g i z m e m' (left_by (Err e) _ _ m m' refused left)) s s (same_grows k s) x o)
 
     closed_own : (y : Result Closed (Refused × Gathering)) (x : Gathering) → y ≡ close_answer r x → Open g h s x
         → State g (closed g y ∷ h) s (after y closed_with (open_with x))
@@ -261,7 +261,8 @@ module _ {S : Type 0} (r : Ruling) (k : Meaning S) where
         let is = q.1 in
         goes_out g h s n m m' x.whole (cc) (left_by (Ok n) _ _ m m' e left) d
     issued_own m (Err e) m' x refused left d =
-        record { held = open_keeps g _ h (refused_issue g g m e m') s s (same_grows k s) x.whole d.held; accepted = d.accepted }
+        let quiet = refused_issue g m e m' (left_by (Err e) _ _ m m' refused left) in
+        record { held = open_keeps g _ h quiet s s (same_grows k s) x.whole d.held; accepted = d.accepted }
 
   -- ---- along every run
 

@@ -1,5 +1,6 @@
 mod Receipts
 mod Parting
+mod Parts
 mod Walk
 pub mod Questions
 pub mod Files

@@ -1,5 +1,5 @@
 -- Calls that do nothing to a gathering.
-use Rattle.std.proofs.Common.{◌≡◌, ℕ, false, eqb, ◌⊎◌, List, [], ◌∷◌, ◌++◌, Ok, Err, MatchBool, Result, sym, refl, inl, inr}
+use Rattle.std.proofs.Common.{◌≡◌, ℕ, false, eqb, ◌⊎◌, List, [], ◌∷◌, ◌++◌, Ok, Err, MatchBool, Result, sym, refl, ◌∙◌, subst, inl, inr}
 use Rattle.std.proofs.lemmas.Bool.{cond-false, eq-eqb, ne_eqb}
 use Rattle.std.proofs.lemmas.Bool.Decides.{when_true, when_false}
 use Rattle.refusal.specs.declared.Refused.{Refused}
@@ -24,14 +24,6 @@ pub earlier : {A B : Type 0} → (A → ⊥) → A ⊎ B → B
 earlier never (inl a) = absurd (never a)
 earlier never (inr b) = b
 
--- refused calls, of whichever gathering
-module _ (g g' : ℕ) where
-  pub refused_add : (i : ℕ) (z m : List ℕ) (e : Refused) (m' : List ℕ) → Quiet g (added g' i z m (Err e) m')
-  refused_add i z m e m' = record { no_start = λ _ _ _ q. q; no_add = λ _ q. q.2; no_issue = λ _ q. q; brings = λ _. refl; feeds = λ _ _ fed. fed }
-
-  pub refused_issue : (m : List ℕ) (e : Refused × Closed) (m' : List ℕ) → Quiet g (issued g' m (Err e) m')
-  refused_issue m e m' = record { no_start = λ _ _ _ q. q; no_add = λ _ q. q; no_issue = λ _ q. q; brings = λ _. refl; feeds = λ _ _ fed. fed }
-
 module _ (g g' : ℕ) (other : g ≡ g' → ⊥) where
   not_it : eqb g' g ≡ false
   not_it = ne_eqb g' g (λ e. other (sym e))
@@ -48,12 +40,14 @@ module _ (g g' : ℕ) (other : g ≡ g' → ⊥) where
       let same : (h : List Event) → brought g (added g' i z m (Ok t) m' ∷ h) ≡ brought g h =
       λ h. cond-false (eqb g' g) (brought g h ++ (record { house = i; seal = z } ∷ [])) (brought g h) not_it in
       record { no_start = λ _ _ _ q. q; no_add = λ _ q. other (sym q.0); no_issue = λ _ q. q; brings = same; feeds = other_fed m m' }
-  add_of_other i z m (Err e) m' = refused_add g g' i z m e m'
+  add_of_other i z m (Err e) m' =
+      record { no_start = λ _ _ _ q. q; no_add = λ _ q. q.2; no_issue = λ _ q. q; brings = λ _. refl; feeds = other_fed m m' }
 
   pub issue_of_other : (m : List ℕ) (y : Result ℕ (Refused × Closed)) (m' : List ℕ) → Quiet g (issued g' m y m')
   issue_of_other m (Ok n) m' =
       record { no_start = λ _ _ _ q. q; no_add = λ _ q. q; no_issue = λ _ q. other (sym q.0); brings = λ _. refl; feeds = other_fed m m' }
-  issue_of_other m (Err e) m' = refused_issue g g' m e m'
+  issue_of_other m (Err e) m' =
+      record { no_start = λ _ _ _ q. q; no_add = λ _ q. q; no_issue = λ _ q. q; brings = λ _. refl; feeds = other_fed m m' }
 
 module _ (g : ℕ) where
   pub any_announce : (a : ℕ) (p : List ℕ) (y : Result (ℕ × Digest) Refused) → Quiet g (announced a p y)
@@ -77,3 +71,17 @@ module _ (g : ℕ) where
   -- the memory of an own call: what it left, and what it was given
   pub own_fed : (m m' l : List ℕ) (h : List Event) → MatchBool (eqb g g) ((m' ≡ l) × Fed g m h) (Fed g l h) → (m' ≡ l) × Fed g m h
   own_fed m m' l h fed = when_true ((m' ≡ l) × Fed g m h) (Fed g l h) (eq-eqb g g refl) fed
+
+  -- a call that left the memory as it was given
+  still_fed : (m m' : List ℕ) → m' ≡ m → (l : List ℕ) (h : List Event) → MatchBool (eqb g g) ((m' ≡ l) × Fed g m h) (Fed g l h) → Fed g l h
+  still_fed m m' same l h fed =
+      let own = own_fed m m' l h fed in
+      subst (λ (x : List ℕ). Fed g x h) (sym same ∙ own.0) own.1
+
+  pub refused_add : (i : ℕ) (z m : List ℕ) (e : Refused) (m' : List ℕ) → m' ≡ m → Quiet g (added g i z m (Err e) m')
+  refused_add i z m e m' same =
+      record { no_start = λ _ _ _ q. q; no_add = λ _ q. q.2; no_issue = λ _ q. q; brings = λ _. refl; feeds = still_fed m m' same }
+
+  pub refused_issue : (m : List ℕ) (e : Refused × Closed) (m' : List ℕ) → m' ≡ m → Quiet g (issued g m (Err e) m')
+  refused_issue m e m' same =
+      record { no_start = λ _ _ _ q. q; no_add = λ _ q. q; no_issue = λ _ q. q; brings = λ _. refl; feeds = still_fed m m' same }

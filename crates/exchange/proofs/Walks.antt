@@ -1,12 +1,12 @@
 -- What a walk over a bundle's receipts has met.
-use Rattle.std.proofs.Common.{◌≡◌, ℕ, zero, suc, ◌+◌, ◌^◌, ◌<◌, true, ◌⊎◌, List, Ok, sym, ap, ◌∙◌, subst, inl, inr, ⊎_elim, zero-add, arith}
+use Rattle.std.proofs.Common.{◌≡◌, ℕ, zero, suc, ◌+◌, ◌^◌, ◌<◌, ◌≤◌, true, ◌⊎◌, List, length, Ok, sym, ap, ◌∙◌, subst, inl, inr, ⊎_elim, mul-le-mul_right, zero-add, arith}
 use lib.Bits.{bit_or}
-use Rattle.std.proofs.lemmas.Bool.{cases_eq}
+use Rattle.std.proofs.lemmas.Bool.{cases_eq, eqb-true}
 use Rattle.bits.specs.Bits.{has}
 use Rattle.witness.specs.Rules.{Ruling}
 use Rattle.witness.specs.Members.{has_kept, has_none}
 use Rattle.seal.specs.Meanings.{Meaning}
-use Rattle.exchange.specs.Layout.{receipt_house, receipt_seal, bundle_count, bundle_statement}
+use Rattle.exchange.specs.Layout.{receipt_length, receipt_at, receipt_house, receipt_seal, bundle_count, bundle_statement}
 use Rattle.exchange.specs.Machine.{walk}
 use Rattle.exchange.proofs.Questions.{went_on}
 use Rattle.exchange.proofs.Walk.{this, walk_none, walk_more, taken_counts}
@@ -44,3 +44,9 @@ module _ {S : Type 0} (r : Ruling) (k : Meaning S) (s : S) (b : List ℕ) where
     signer_receipted z z-in =
         ⊎_elim (λ none. absurd (omega (arith, has_none z))) (subst (λ (n : ℕ). Receipted n z) (zero-add (bundle_count b)))
         (walk_met (bundle_count b) 0 0 fit.signers fit.walked z z-in)
+
+    -- each receipt stands whole in the bundle
+    pub receipt_whole : (i : ℕ) → i < bundle_count b → receipt_at k.size (i + 1) ≤ length b
+    receipt_whole i inside =
+        let up_to : i + 1 ≤ bundle_count b = omega arith in
+        omega (arith, mul-le-mul_right (receipt_length k.size) up_to, eqb-true (length b) (receipt_at k.size (bundle_count b)) fit.sized)

@@ -14,9 +14,9 @@ use Rattle.exchange.specs.declared.gathering.Gathering.{Gathering}
 use Rattle.exchange.specs.declared.gathering.Closed.{Closed}
 use Rattle.exchange.specs.declared.filing.Filing.{Filing}
 use Rattle.exchange.specs.Stations.{fresh_station}
-use Rattle.exchange.specs.Layout.{receipt_house, receipt_seal, bundle_statement, bundle_digest, bundle_count}
-use Rattle.exchange.specs.Machine.{statement_of}
-use Rattle.exchange.specs.Runs.{Event, announced, noted, started, added, closed, issued, filed, signed, World, Step, Run, Some, Each}
+use Rattle.exchange.specs.Layout.{receipt_at, receipt_house, receipt_seal, bundle_statement, bundle_digest, bundle_count}
+use Rattle.exchange.specs.Machine.{statement_of, gathering_statement}
+use Rattle.exchange.specs.Runs.{Event, announced, noted, started, added, closed, issued, filed, signed, World, open_with, Step, Run, Some, Each}
 
 -- a call that was taken
 abbrev pub Taken : {A E : Type 0} → Result A E → Type 0
@@ -28,17 +28,15 @@ unfoldable pub countdown : ℕ → List ℕ
 countdown zero = []
 countdown (suc n) = suc n ∷ countdown n
 
--- a taken announce or file is handed pages p
+-- pages p are handed in
 abbrev pub Hands : List ℕ → Event → Type 0
-Hands p (announced a q (Ok y)) = q ≡ p
-Hands p (announced a q (Err e)) = ⊥
+Hands p (announced a q y) = q ≡ p
 Hands p (noted a j k d m y m') = ⊥
 Hands p (started g j k d y) = ⊥
 Hands p (added g i z m y m') = ⊥
 Hands p (closed g y) = ⊥
 Hands p (issued g m y m') = ⊥
-Hands p (filed a b q (Ok f)) = q ≡ p
-Hands p (filed a b q (Err e)) = ⊥
+Hands p (filed a b q y) = q ≡ p
 Hands p (signed i x m y m') = ⊥
 
 -- gathering g is started for house j, number k and digest d
@@ -93,7 +91,7 @@ brought g (issued g' m y m' ∷ h) = brought g h
 brought g (filed a b p y ∷ h) = brought g h
 brought g (signed i x m y m' ∷ h) = brought g h
 
--- the receipts that stand in a bundle, n of them from index i on
+-- the receipts that stand in a bundle, n of them from place i on
 unfoldable pub receipts_from : ℕ → List ℕ → ℕ → ℕ → List Receipt
 receipts_from size b zero i = []
 receipts_from size b (suc n) i = record { house = receipt_house size b i; seal = receipt_seal size b i } ∷ receipts_from size b n (i + 1)
@@ -101,17 +99,15 @@ receipts_from size b (suc n) i = record { house = receipt_house size b i; seal =
 abbrev pub receipts_in : ℕ → List ℕ → List Receipt
 receipts_in size b = receipts_from size b (bundle_count b) 0
 
--- each taken add and issue of gathering g was given the memory that the one before left, and the last left m
+-- each call of gathering g was given the memory that its call before left, and the last left m
 abbrev pub Fed : ℕ → List ℕ → List Event → Type 0
 Fed g m [] = Unit {0}
 Fed g m (announced a p y ∷ h) = Fed g m h
 Fed g m (noted a j k d n y n' ∷ h) = Fed g m h
 Fed g m (started g' j k d y ∷ h) = Fed g m h
-Fed g m (added g' i z n (Ok t) n' ∷ h) = MatchBool (g' == g) ((n' ≡ m) × Fed g n h) (Fed g m h)
-Fed g m (added g' i z n (Err e) n' ∷ h) = Fed g m h
+Fed g m (added g' i z n y n' ∷ h) = MatchBool (g' == g) ((n' ≡ m) × Fed g n h) (Fed g m h)
 Fed g m (closed g' y ∷ h) = Fed g m h
-Fed g m (issued g' n (Ok t) n' ∷ h) = MatchBool (g' == g) ((n' ≡ m) × Fed g n h) (Fed g m h)
-Fed g m (issued g' n (Err e) n' ∷ h) = Fed g m h
+Fed g m (issued g' n y n' ∷ h) = MatchBool (g' == g) ((n' ≡ m) × Fed g n h) (Fed g m h)
 Fed g m (filed a b p y ∷ h) = Fed g m h
 Fed g m (signed i x n y n' ∷ h) = Fed g m h
 
@@ -185,40 +181,25 @@ module _ (r : Ruling) (first : ℕ → Station) where
     abbrev pub Honest : ℕ → Type 0
     Honest i = (i < r.houses) × (has honest i ≡ 1)
 
-    -- every honest house has one station, fresh at the opening
-    abbrev pub OneStation : Type 0
-    OneStation = (i : ℕ) → Honest i → (a : ℕ) × ((first a ≡ fresh_station i) × ((b : ℕ) → (first b).house ≡ i → b ≡ a))
-
-    -- a notice in an honest house's name that an honest house notes carries what that house's announce answered earlier
+    -- a notice in an honest house's name, handed to an honest house, carries what that house's announce answered;
+    -- sign is called directly for no honest house
     abbrev pub Fair : List Event → Event → Type 0
     Fair h (announced a q y) = Unit {0}
-    Fair h (noted a j k d m (Ok t) m') = Honest (first a).house → Honest j → Some (Answers j k d) h
-    Fair h (noted a j k d m (Err e) m') = Unit {0}
+    Fair h (noted a j k d m y m') = Honest (first a).house → Honest j → Some (Answers j k d) h
     Fair h (started g j k d y) = Unit {0}
     Fair h (added g i z m y m') = Unit {0}
     Fair h (closed g y) = Unit {0}
     Fair h (issued g m y m') = Unit {0}
     Fair h (filed a b q y) = Unit {0}
-    Fair h (signed i x m y m') = Unit {0}
-
-    -- no direct sign for an honest house is taken
-    abbrev pub ByNote : List Event → Event → Type 0
-    ByNote h (announced a q y) = Unit {0}
-    ByNote h (noted a j k d m y m') = Unit {0}
-    ByNote h (started g j k d y) = Unit {0}
-    ByNote h (added g i z m y m') = Unit {0}
-    ByNote h (closed g y) = Unit {0}
-    ByNote h (issued g m y m') = Unit {0}
-    ByNote h (filed a b q y) = Unit {0}
-    ByNote h (signed i x m (Ok t) m') = Honest i → ⊥
-    ByNote h (signed i x m (Err e) m') = Unit {0}
+    Fair h (signed i x m y m') = Honest i → ⊥
 
     -- the conditions on the history alone
     pub record Conditions (h : List Event) : Type 0 where
       -- at most t of the n houses are not honest
       pub trusted : Trusted r honest
-      pub one_station : OneStation
-      -- no two different pages that are announced or filed share a digest
+      -- every honest house has one station, fresh at the opening
+      pub one_station : (i : ℕ) → Honest i → (a : ℕ) × ((first a ≡ fresh_station i) × ((b : ℕ) → (first b).house ≡ i → b ≡ a))
+      -- no two different pages handed in share a digest
       pub apart : (p q : List ℕ) → Some (Hands p) h → Some (Hands q) h → digest_of p ≡ digest_of q → p ≡ q
       pub fair : Each Fair h
 
@@ -227,20 +208,20 @@ module _ (r : Ruling) (first : ℕ → Station) where
       abbrev pub SignedBefore : World S → List Event → ℕ → Statement → List ℕ → Type 0
       SignedBefore w h i x z = Honest i → k.checks w.seal i x z ≡ true → Some (Signs i x) h
 
-      -- so with every receipt of a bundle that is filed, upon the seals as they are at that call
+      -- so with the seals handed to one call, upon the seals as they are at that call
       abbrev pub UnforgedNow : World S → List Event → Event → Type 0
       UnforgedNow w h (announced a q y) = Unit {0}
       UnforgedNow w h (noted a j n d m y m') = Unit {0}
       UnforgedNow w h (started g j n d y) = Unit {0}
-      UnforgedNow w h (added g i z m y m') = Unit {0}
+      UnforgedNow w h (added g i z m y m') = (x : Gathering) → w.gatherings g ≡ open_with x → SignedBefore w h i (gathering_statement r x) z
       UnforgedNow w h (closed g y) = Unit {0}
       UnforgedNow w h (issued g m y m') = Unit {0}
-      UnforgedNow w h (filed a b q (Ok f)) =
-          (i : ℕ) → i < bundle_count b → SignedBefore w h (receipt_house k.size b i) (bundle_statement b) (receipt_seal k.size b i)
-      UnforgedNow w h (filed a b q (Err e)) = Unit {0}
+      UnforgedNow w h (filed a b q y) =
+          (i : ℕ) → i < bundle_count b → receipt_at k.size (i + 1) ≤ length b
+          → SignedBefore w h (receipt_house k.size b i) (bundle_statement b) (receipt_seal k.size b i)
       UnforgedNow w h (signed i x m y m') = Unit {0}
 
-      -- no seal of a bundle that is filed is forged
+      -- no seal handed to add or file is forged
       abbrev pub Unforged : (e : S) (h : List Event) (w : World S) → Run r k e first h w → Type 0
       Unforged e [] w run = Unit {0}
       Unforged e (c ∷ h) w run = UnforgedNow run.0 h c × Unforged e h run.0 run.1.0
@@ -274,21 +255,6 @@ ReadsBack {S} r k =
     (first : ℕ → Station) (e : S) (h : List Event) (w : World S) → Run r k e first h w
     → (g : ℕ) (m b : List ℕ) → Some (Issues g b) h → Fed g m h → receipts_in k.size b ≡ brought g h
 
--- A house with one station, fresh at the opening, files the numbers 1, 2, 3 and so on of any house: in every run, under no other condition.
-abbrev pub InOrder : {S : Type 0} → Ruling → Meaning S → Type 0
-InOrder {S} r k =
-    (first : ℕ → Station) (e : S) (h : List Event) (w : World S) → Run r k e first h w
-    → (i a : ℕ) → first a ≡ fresh_station i → ((b : ℕ) → (first b).house ≡ i → b ≡ a)
-    → (j : ℕ) → numbers r first i j h ≡ countdown (length (numbers r first i j h))
-
--- Filings of one house and number have one digest, whatever notices carry and whichever pages share a digest: in every run with at
--- most t houses that are not honest, one fresh station for each honest house, and no forged seal.
-abbrev pub OneDigest : {S : Type 0} → Ruling → Meaning S → Type 0
-OneDigest {S} r k =
-    (honest : ℕ) (first : ℕ → Station) (e : S) (h : List Event) (w : World S) (run : Run r k e first h w)
-    → Trusted r honest → OneStation r first honest → Unforged r first honest k e h w run
-    → (i i' j n : ℕ) (p q : List ℕ) → Some (Files r first i j n p) h → Some (Files r first i' j n q) h → digest_of p ≡ digest_of q
-
 -- For every set of honest houses, all stations and every state of the seal kind at the opening, and every list of calls: under the
 -- conditions, what is promised holds after it.
 abbrev pub Law : {S : Type 0} → Ruling → Meaning S → Type 0
@@ -300,4 +266,4 @@ Law {S} r k =
 abbrev pub LawFrom : {S : Type 0} → Ruling → Meaning S → S → Type 0
 LawFrom {S} r k e =
     (honest : ℕ) (first : ℕ → Station) (h : List Event) (w : World S) (run : Run r k e first h w)
-    → Conditions r first honest h → Each (ByNote r first honest) h → Holds r first honest k h w
+    → Conditions r first honest h → Holds r first honest k h w

@@ -16,7 +16,7 @@ head_bytes s count = statement_bytes s ++ (count ∷ [])
 abbrev pub receipt_length : ℕ → ℕ
 receipt_length size = 1 + size
 
--- where the receipt at index i stands, indices counted from 0
+-- where the receipt at place i stands, places counted from 0
 abbrev pub receipt_at : ℕ → ℕ → ℕ
 receipt_at size i = head_length + i * receipt_length size
 
@@ -50,7 +50,7 @@ bundle_statement b = record { mark = bundle_mark b; house = bundle_house b; numb
 abbrev pub bundle_count : List ℕ → ℕ
 bundle_count b = slice_index b statement_length
 
--- the receipt at index i: its house and its seal
+-- the receipt at place i: its house and its seal
 abbrev pub receipt_house : ℕ → List ℕ → ℕ → ℕ
 receipt_house size b i = slice_index b (receipt_at size i)
 

@@ -3,4 +3,3 @@ pub mod Machine
 pub mod Layout
 pub mod Runs
 pub mod Law
-pub mod Heads

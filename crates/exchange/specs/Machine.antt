@@ -138,19 +138,12 @@ receipt_answer r kind s x place house seal met =
     (ask (kind.checks s house x seal) (at_receipt SealFails place)
     (Ok (bit_or met (2 ^ house))))))
 
--- the receipts of a bundle from index i on, counted from 0, n of them, after those of the houses in `met`
+-- the receipts of a bundle from place i on, counted from 0, n of them, after those of the houses in `met`
 unfoldable pub walk : {S : Type 0} → Ruling → Meaning S → S → List ℕ → ℕ → ℕ → ℕ → Result ℕ Refused
 walk r kind s b zero i met = Ok met
 walk r kind s b (suc n) i met =
     go_on (receipt_answer r kind s (bundle_statement b) (i + 1) (receipt_house kind.size b i) (receipt_seal kind.size b i) met)
     (λ all. walk r kind s b n (i + 1) all)
-
--- file: the last questions before the receipts, of the pages and of the bundle's length
-abbrev pub pages_questions : {S : Type 0} → Meaning S → List ℕ → List ℕ → Result (Unit {0}) Refused
-pages_questions kind b pages =
-    ask (same_digest (bundle_digest b) (digest_of pages)) (whole OtherPages)
-    (ask (length b == receipt_at kind.size (bundle_count b)) (whole BundleLength)
-    (Ok tt))
 
 -- file: the questions before the receipts
 unfoldable pub file_questions : {S : Type 0} → Ruling → Meaning S → Station → List ℕ → List ℕ → Result (Unit {0}) Refused
@@ -162,7 +155,9 @@ file_questions r kind s b pages =
     (ask (nat_lt (bundle_house b) r.houses) (whole NoSuchHouse)
     (ask (nat_lt (row_of s (bundle_house b)).last (bundle_number b)) (whole NumberPast)
     (ask (bundle_number b == (row_of s (bundle_house b)).last + 1) (whole NumberAhead)
-    (pages_questions kind b pages)))))))
+    (ask (same_digest (bundle_digest b) (digest_of pages)) (whole OtherPages)
+    (ask (length b == receipt_at kind.size (bundle_count b)) (whole BundleLength)
+    (Ok tt)))))))))
 
 -- then the receipts in their order, and last whether their houses are accepted
 abbrev pub file_answer : {S : Type 0} → Ruling → Meaning S → S → Station → List ℕ → List ℕ → Result Filing Refused

@@ -1,8 +1,7 @@
 // Announcing and noting: the calls that change a station before a filing.
-ghost use Rattle.std.specs.Prelude.{◌≡◌, ◌+◌, ◌<◌, ◌≤◌, length, OnOk};
+ghost use Rattle.std.specs.Prelude.{◌≡◌, ◌<◌, length};
 ghost use Rattle.seal.specs.Meanings.{Signing, sign_answer};
-ghost use Rattle.exchange.specs.Machine.{placed, member, statement_of, announce_answer, announce_station, note_questions, note_answer, note_station};
-ghost use Rattle.exchange.specs.Stations.{row_of};
+ghost use Rattle.exchange.specs.Machine.{placed, member, statement_of, announce_answer, announce_station, note_answer, note_station};
 
 use crate::opening::Exchange;
 use crate::rows::WINDOW;
@@ -42,38 +41,6 @@ impl<R: Rule, S: Seal> Exchange<R, S> {
         Ok((station.announced, digest(pages)))
     }
 
-    // What is asked before a notice is signed.
-    fn may_note(
-        &self,
-        station: &Station,
-        house: u8,
-        number: Number,
-        digest: Digest,
-    ) -> Result<(), Refused>
-        ensures answer { result ≡ note_questions (R.Rule.ruling self.now.rule) station.now house number digest }
-        ensures bound { OnOk result ((house < 16) × ((row_of station.now house).last < number) × (number ≤ (row_of station.now house).last + 4)) }
-    {
-        if station.house >= self.rule.houses() {
-            return Err(Refused::new(Refusal::StationHouse));
-        }
-        if house >= self.rule.houses() {
-            return Err(Refused::new(Refusal::NoSuchHouse));
-        }
-        let row = &station.rows[house as usize];
-        row.within(number)?;
-        if !is_member(self.rule.named(house, number), station.house) {
-            return Err(Refused::new(Refusal::NotNamed));
-        }
-        let slot = row.slot(number);
-        if !slot.free_of_other(digest) {
-            return Err(Refused::new(Refusal::OtherDigestNoted));
-        }
-        if !slot.is_empty() {
-            return Err(Refused::new(Refusal::AlreadyNoted));
-        }
-        Ok(())
-    }
-
     // The station's house gives its receipt for a notice: number and digest of an edition of a house.
     pub fn note(
         &mut self,
@@ -88,15 +55,34 @@ impl<R: Rule, S: Seal> Exchange<R, S> {
         ensures rule { self.new.rule ≡ self.old.rule }
         ensures leaves { Signing S.Seal.meaning result station.old.house (statement_of (R.Rule.ruling self.old.rule) house number digest) self.old.seal memory.old self.new.seal memory.new }
     {
-        self.may_note(station, house, number, digest)?;
+        let own = station.house;
+        if own >= self.rule.houses() {
+            return Err(Refused::new(Refusal::StationHouse));
+        }
+        if house >= self.rule.houses() {
+            return Err(Refused::new(Refusal::NoSuchHouse));
+        }
+        let row = &mut station.rows[house as usize];
+        row.within(number)?;
+        if !is_member(self.rule.named(house, number), own) {
+            return Err(Refused::new(Refusal::NotNamed));
+        }
+        let slot = row.slot(number);
+        if !slot.free_of_other(digest) {
+            return Err(Refused::new(Refusal::OtherDigestNoted));
+        }
+        if !slot.is_empty() {
+            return Err(Refused::new(Refusal::AlreadyNoted));
+        }
+        let mark = self.rule.mark();
         let statement = Statement {
-            mark: self.rule.mark(),
+            mark,
             house,
             number,
             digest,
         };
-        self.seal.sign(station.house, statement, memory)?;
-        station.rows[house as usize].fill(number, digest);
+        self.seal.sign(own, statement, memory)?;
+        row.fill(number, digest);
         Ok(())
     }
 

@@ -1,8 +1,7 @@
 // Filing: the head's questions, the receipts in their order, and the row of the edition's house.
-ghost use Rattle.std.specs.Prelude.{◌≡◌, ◌+◌, ◌<◌, length, Ok};
-ghost use Rattle.exchange.specs.Heads.{Heads};
-ghost use Rattle.exchange.specs.Layout.{receipt_at, bundle_statement};
-ghost use Rattle.exchange.specs.Machine.{receipt_answer, walk, pages_questions, file_questions, file_answer, file_station};
+ghost use Rattle.std.specs.Prelude.{◌≡◌, ◌+◌, ◌<◌, ◌≤◌, length, Ok, Err, MatchResult};
+ghost use Rattle.exchange.specs.Layout.{receipt_at, bundle_statement, bundle_count};
+ghost use Rattle.exchange.specs.Machine.{receipt_answer, walk, file_questions, file_answer, file_station};
 
 use crate::announcing::is_member;
 use crate::filing::Filing;
@@ -18,9 +17,9 @@ use sha256::digest;
 use witness::Rule;
 
 impl<R: Rule, S: Seal> Exchange<R, S> {
-    // What is asked of the station and of the bundle's head; the head where every answer is yes.
-    fn addressed(&self, station: &Station, bundle: &[u8], pages: &[u8]) -> Result<Head, Refused>
-        ensures { Heads (file_questions (R.Rule.ruling self.now.rule) S.Seal.meaning station.now bundle.now pages.now) (pages_questions S.Seal.meaning bundle.now pages.now) bundle.now result }
+    // All that is asked before the receipts; the head where every answer is yes.
+    fn parted(&self, station: &Station, bundle: &[u8], pages: &[u8]) -> Result<Head, Refused>
+        ensures { MatchResult result (λ h. (file_questions (R.Rule.ruling self.now.rule) S.Seal.meaning station.now bundle.now pages.now ≡ Ok tt) × (h.statement ≡ bundle_statement bundle.now) × (h.count ≡ bundle_count bundle.now)) (λ e. file_questions (R.Rule.ruling self.now.rule) S.Seal.meaning station.now bundle.now pages.now ≡ Err e) }
     {
         if station.house >= self.rule.houses() {
             return Err(Refused::new(Refusal::StationHouse));
@@ -43,15 +42,7 @@ impl<R: Rule, S: Seal> Exchange<R, S> {
         if statement.number - last != 1 {
             return Err(Refused::new(Refusal::NumberAhead));
         }
-        Ok(head)
-    }
-
-    // All that is asked before the receipts; the head where every answer is yes.
-    fn parted(&self, station: &Station, bundle: &[u8], pages: &[u8]) -> Result<Head, Refused>
-        ensures { Heads (file_questions (R.Rule.ruling self.now.rule) S.Seal.meaning station.now bundle.now pages.now) (Ok tt) bundle.now result }
-    {
-        let head = self.addressed(station, bundle, pages)?;
-        if !same(head.statement.digest, digest(pages)) {
+        if !same(statement.digest, digest(pages)) {
             return Err(Refused::new(Refusal::OtherPages));
         }
         if bundle.len() != receipt_at(S::seal_len(), head.count as usize) {

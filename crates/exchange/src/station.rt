@@ -16,8 +16,7 @@ pub struct Row {
     pub(crate) slots: [Slot; 4],
 }
 
-// It moves and is never copied, so that no earlier state of it can be put back.
-#[derive(Drop)]
+#[derive(Clone, Copy)]
 pub struct Station {
     // The house that it belongs to.
     pub(crate) house: u8,

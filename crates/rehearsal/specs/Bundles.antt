@@ -1,5 +1,5 @@
 -- The bundle of all receipts that the register has for a statement.
-use Rattle.std.specs.Prelude.{◌≡◌, ℕ, zero, suc, ◌+◌, cond, List, length, Some, None, Ok, Err, Option, Result}
+use Rattle.std.specs.Prelude.{ℕ, zero, suc, ◌+◌, cond, List, length, Some, None, Ok, Err, Option, Result}
 use Rattle.refusal.specs.declared.Refusal.{Refusal}
 use Rattle.refusal.specs.declared.Refused.{Refused}
 use Rattle.sha256.specs.declared.value.Digest.{Digest}
@@ -48,13 +48,3 @@ bundle_of r q j k d m =
     (λ y. go_on (kept (close_answer r y.0))
     (λ c. go_on (kept (issue_answer register c (length y.1)))
     (λ n. Ok (n, issue_memory r register c y.1)))))
-
--- what gathering and memory are after receipts are added, or the refusal
-abbrev pub Leaves : Result (Gathering × List ℕ) Refused → Gathering → List ℕ → Result (Unit {0}) Refused → Type 0
-Leaves answer g m (Ok x) = answer ≡ Ok (g, m)
-Leaves answer g m (Err e) = answer ≡ Err e
-
--- a bundle's length and the memory that it begins, or the refusal
-abbrev pub Writes : Result (ℕ × List ℕ) Refusal → List ℕ → Result ℕ Refusal → Type 0
-Writes answer m (Ok n) = answer ≡ Ok (n, m)
-Writes answer m (Err e) = answer ≡ Err e

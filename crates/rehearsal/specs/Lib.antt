@@ -4,4 +4,3 @@ pub mod Events
 pub mod Openings
 pub mod Reports
 pub mod Calls
-pub mod Playing

@@ -1,6 +1,9 @@
 -- What an input's first three lines mean, and its limits.
-use Rattle.std.specs.Prelude.{ℕ, ◌+◌, ◌-◌, Bool, cond, ◌&&◌, ◌||◌, List, length, Some, None, codes, count_by, Option, ◌==◌, nat_eq, nat_le, slice_index}
+use Rattle.std.specs.Prelude.{ℕ, ◌+◌, ◌-◌, Bool, cond, ◌&&◌, ◌||◌, List, length, Some, None, Ok, Err, codes, count_by, Option, Result, ◌==◌, nat_eq, nat_le, slice_index}
 use Rattle.std.specs.Str.{bytes_eq}
+use Rattle.refusal.specs.declared.Refusal.{Refusal}
+use Rattle.refusal.specs.declared.Refusal.TheVariants.{BadLine}
+use Rattle.witness.specs.Opening.{opened}
 use Rattle.rehearsal.specs.declared.opening.Mark.{Mark}
 use Rattle.rehearsal.specs.declared.opening.Mark.TheVariants.{All, Rotating}
 use Rattle.rehearsal.specs.declared.opening.Opening.{Opening}
@@ -54,3 +57,17 @@ opening_of input =
     (numbers_of b.0 c.1)
     None))))
     None
+
+-- why numbers are refused, if they are
+abbrev pub why_refused : Result (Unit {0}) Refusal → Option Refusal
+why_refused (Ok x) = None
+why_refused (Err e) = Some e
+
+-- the refusal of the form, or else of the numbers
+abbrev pub why_not_opened : Option Begin → Option Refusal
+why_not_opened None = Some BadLine
+why_not_opened (Some b) = why_refused (opened b.houses b.faults)
+
+-- why the opening of an input is refused, if it is
+abbrev pub opening_refusal : List ℕ → Option Refusal
+opening_refusal input = why_not_opened (opening_of input)

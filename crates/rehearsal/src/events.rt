@@ -1,6 +1,6 @@
 // What an event line says.
 ghost use Rattle.std.specs.Prelude.{◌≡◌, Some, None, MatchOption};
-ghost use Rattle.rehearsal.specs.Events.{call_of_word, fitting, meant, fields_of, event_of};
+ghost use Rattle.rehearsal.specs.Events.{call_of_word, fitting, meant, Fields, fields_of, event_of};
 
 use crate::fields::{SPACE, cut, is_text, is_word, number};
 use edition::Number;
