@@ -2,7 +2,7 @@
 
 # A sample edition: its digest, and four houses that agree on it; then the rehearsal of docs/REHEARSAL.md.
 demo:
-	@rt check digest certify rehearse >/dev/null
+	@tools/build digest certify rehearse
 	@target/bin/digest < samples/spring.txt
 	@target/bin/certify < samples/spring.txt
 	@target/bin/rehearse < crates/rehearse/stdin
@@ -13,7 +13,7 @@ test:
 
 # The library for C with its header, ready to link; it needs no other library than C's.
 clib:
-	@rt staticlib bodunkwa >/dev/null
+	@tools/build bodunkwa
 	@mkdir -p target/clib
 	@cp include/bodunkwa.h target/staticlib/libbodunkwa.a target/clib
 	@echo "cc your.c -Itarget/clib target/clib/libbodunkwa.a"
@@ -24,5 +24,5 @@ bench:
 
 # The program rehearse beside a model of it in Python, on random inputs.
 compare:
-	@rt check rehearse >/dev/null
+	@tools/build rehearse
 	@python3 tools/rehearse_compare.py target/bin/rehearse 3000

@@ -21,7 +21,7 @@ expect() {
   fi
 }
 
-step "the library" rt staticlib bodunkwa
+step "the library" tools/build bodunkwa
 step "the header as C" gcc "${strict[@]}" -fsyntax-only -x c include/bodunkwa.h
 step "the header as C++" g++ -Wall -Wextra -Werror -fsyntax-only -x c++ include/bodunkwa.h
 step "compiling the test" gcc "${strict[@]}" -g -fsanitize=address,undefined -fno-sanitize-recover=all -o "$built/test" tests/c/test.c "$library"

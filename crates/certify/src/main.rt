@@ -10,6 +10,7 @@ use crate::stop::Stop;
 use anyhow::anyhow;
 use edition::MOST_BYTES;
 use std::io::Read;
+use std::process::ExitCode;
 
 // One byte more than the bound is read, so that pages that are too long are seen to be, and no more.
 fn run(rt: &HostRuntime) -> Result<(), Stop> {
@@ -33,10 +34,13 @@ fn ended(rt: &HostRuntime, res: Result<(), Stop>) -> anyhow::Result<()> {
     }
 }
 
-fn main(rt: HostRuntime) -> anyhow::Result<()> {
-    let result = ended(&rt, run(&rt));
-    if let Err(error) = &result {
-        eprintln!(rt; "certify: {error}")?;
+fn main(rt: HostRuntime) -> ExitCode {
+    match ended(&rt, run(&rt)) {
+        Ok(()) => ExitCode::SUCCESS,
+        Err(error) => {
+            // Where even this cannot be written, the status alone tells.
+            let _written = eprintln!(rt; "certify: {error}");
+            ExitCode::FAILURE
+        }
     }
-    result
 }

@@ -4,6 +4,7 @@
 use anyhow::anyhow;
 use edition::{MOST_BYTES, report_on};
 use std::io::Read;
+use std::process::ExitCode;
 
 // One byte more than the bound is read, so that pages that are too long are seen to be, and no more.
 fn run(rt: &HostRuntime) -> anyhow::Result<()> {
@@ -21,10 +22,13 @@ fn run(rt: &HostRuntime) -> anyhow::Result<()> {
     Ok(())
 }
 
-fn main(rt: HostRuntime) -> anyhow::Result<()> {
-    let result = run(&rt);
-    if let Err(error) = &result {
-        eprintln!(rt; "digest: {error}")?;
+fn main(rt: HostRuntime) -> ExitCode {
+    match run(&rt) {
+        Ok(()) => ExitCode::SUCCESS,
+        Err(error) => {
+            // Where even this cannot be written, the status alone tells.
+            let _written = eprintln!(rt; "digest: {error}");
+            ExitCode::FAILURE
+        }
     }
-    result
 }

@@ -3,6 +3,7 @@
 
 use rehearsal::{MOST_INPUT, rehearse};
 use std::io::Read;
+use std::process::ExitCode;
 
 // One byte more than the limit is read, so that an input that is too long is seen to be, and no more.
 fn run(rt: &HostRuntime) -> anyhow::Result<()> {
@@ -15,10 +16,13 @@ fn run(rt: &HostRuntime) -> anyhow::Result<()> {
     Ok(())
 }
 
-fn main(rt: HostRuntime) -> anyhow::Result<()> {
-    let result = run(&rt);
-    if let Err(error) = &result {
-        eprintln!(rt; "rehearse: {error}")?;
+fn main(rt: HostRuntime) -> ExitCode {
+    match run(&rt) {
+        Ok(()) => ExitCode::SUCCESS,
+        Err(error) => {
+            // Where even this cannot be written, the status alone tells.
+            let _written = eprintln!(rt; "rehearse: {error}");
+            ExitCode::FAILURE
+        }
     }
-    result
 }
