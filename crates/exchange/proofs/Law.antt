@@ -5,9 +5,9 @@ use Rattle.seal.specs.Meanings.{Meaning, Meant}
 use Rattle.exchange.specs.declared.station.Station.{Station}
 use Rattle.exchange.specs.Stations.{row_of}
 use Rattle.exchange.specs.Runs.{Event, World, Run}
-use Rattle.exchange.specs.Law.{numbers, Honest, Conditions, Law}
+use Rattle.exchange.specs.Law.{numbers, Honest, Conditions, InOrder, OneDigest, Law}
 use Rattle.exchange.proofs.Stations.{station_house, last_filed}
-use Rattle.exchange.proofs.Agreement.{agreement, order, honesty}
+use Rattle.exchange.proofs.Agreement.{filed_digest, agreement, in_order, order, honesty}
 use Rattle.exchange.proofs.Progress.{closes, issued_files, filed_files, reads_back}
 
 -- the last number in an honest house's station is how many it has filed
@@ -27,10 +27,17 @@ the_law {S} {r} law {k} meant honest first e h w run conditions unforged =
     let last = honest_last r law k honest first e h w run conditions in
     record {
       agreement = λ i i' j n p q _ _. agreement r law k honest first e h w run conditions unforged i i' j n p q;
-      order = order r law k honest first e h w run conditions;
+      order = order r law k honest first e h w run conditions.one_station;
       honesty = λ i j n p _. honesty r law k honest first e h w run conditions unforged i j n p;
       closes = closes r k meant first e h w run law honest conditions.trusted;
       issued_files = issued_files r k meant first e h w run honest house last;
       filed_files = filed_files r k meant first e h w run honest house last;
       reads_back = reads_back r k meant first e h w run;
     }
+
+pub filings_alike : {S : Type 0} {r : Ruling} → Lawful r → (k : Meaning S) → OneDigest r k
+filings_alike {S} {r} law k honest first e h w run trusted one_station unforged =
+    filed_digest r law k honest first e h w run trusted one_station unforged
+
+pub filings_ordered : {S : Type 0} {r : Ruling} → Lawful r → (k : Meaning S) → InOrder r k
+filings_ordered {S} {r} law k first e h w run i a fresh only j = in_order r law k 0 first e h w run i a fresh only j

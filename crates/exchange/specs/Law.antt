@@ -181,6 +181,10 @@ module _ (r : Ruling) (first : ℕ → Station) where
     abbrev pub Honest : ℕ → Type 0
     Honest i = (i < r.houses) × (has honest i ≡ 1)
 
+    -- every honest house has one station, fresh at the opening
+    abbrev pub OneStation : Type 0
+    OneStation = (i : ℕ) → Honest i → (a : ℕ) × ((first a ≡ fresh_station i) × ((b : ℕ) → (first b).house ≡ i → b ≡ a))
+
     -- a notice in an honest house's name, handed to an honest house, carries what that house's announce answered;
     -- sign is called directly for no honest house
     abbrev pub Fair : List Event → Event → Type 0
@@ -192,6 +196,18 @@ module _ (r : Ruling) (first : ℕ → Station) where
     Fair h (issued g m y m') = Unit {0}
     Fair h (filed a b q y) = Unit {0}
     Fair h (signed i x m y m') = Honest i → ⊥
+
+    -- no direct sign for an honest house is taken
+    abbrev pub ByNote : List Event → Event → Type 0
+    ByNote h (announced a q y) = Unit {0}
+    ByNote h (noted a j k d m y m') = Unit {0}
+    ByNote h (started g j k d y) = Unit {0}
+    ByNote h (added g i z m y m') = Unit {0}
+    ByNote h (closed g y) = Unit {0}
+    ByNote h (issued g m y m') = Unit {0}
+    ByNote h (filed a b q y) = Unit {0}
+    ByNote h (signed i x m (Ok t) m') = Honest i → ⊥
+    ByNote h (signed i x m (Err e) m') = Unit {0}
 
     -- the conditions on the history alone
     pub record Conditions (h : List Event) : Type 0 where
@@ -254,6 +270,21 @@ abbrev pub ReadsBack : {S : Type 0} → Ruling → Meaning S → Type 0
 ReadsBack {S} r k =
     (first : ℕ → Station) (e : S) (h : List Event) (w : World S) → Run r k e first h w
     → (g : ℕ) (m b : List ℕ) → Some (Issues g b) h → Fed g m h → receipts_in k.size b ≡ brought g h
+
+-- A house with one station, fresh at the opening, files the numbers 1, 2, 3 and so on of any house: in every run, under no other condition.
+abbrev pub InOrder : {S : Type 0} → Ruling → Meaning S → Type 0
+InOrder {S} r k =
+    (first : ℕ → Station) (e : S) (h : List Event) (w : World S) → Run r k e first h w
+    → (i a : ℕ) → first a ≡ fresh_station i → ((b : ℕ) → (first b).house ≡ i → b ≡ a)
+    → (j : ℕ) → numbers r first i j h ≡ countdown (length (numbers r first i j h))
+
+-- Filings of one house and number have one digest, whatever notices carry and whichever pages share a digest: in every run with at
+-- most t houses that are not honest, one fresh station for each honest house, and no forged seal.
+abbrev pub OneDigest : {S : Type 0} → Ruling → Meaning S → Type 0
+OneDigest {S} r k =
+    (honest : ℕ) (first : ℕ → Station) (e : S) (h : List Event) (w : World S) (run : Run r k e first h w)
+    → Trusted r honest → OneStation r first honest → Unforged r first honest k e h w run
+    → (i i' j n : ℕ) (p q : List ℕ) → Some (Files r first i j n p) h → Some (Files r first i' j n q) h → digest_of p ≡ digest_of q
 
 -- For every set of honest houses, all stations and every state of the seal kind at the opening, and every list of calls: under the
 -- conditions, what is promised holds after it.
