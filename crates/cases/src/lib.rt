@@ -3,7 +3,7 @@
 
 ghost use Rattle.cases.specs.Cases.{Cases};
 ghost use Rattle.cases.specs.Filing.{ConditionsCanHold, ConditionsCanHoldOpened};
-ghost use Rattle.cases.specs.Forging.{RegisterUnforged};
+ghost use Rattle.cases.specs.Forging.{RegisterUnforged, RegisterUnforgedByNote};
 
 use seal::Seal;
 use witness::cases_of_rules;
@@ -13,8 +13,10 @@ mod laws;
 pub use laws::{all_over_register, all_over_stamps, rotating_over_register, rotating_over_stamps};
 
 // In every run over a register of which no row was used at the opening, what checks for an honest house was signed by a note of it.
+// Already where no direct sign for an honest house is taken, whatever notices carry.
 pub fn register_seals_are_not_forged()
-    ensures { RegisterUnforged }
+    ensures fair { RegisterUnforged }
+    ensures by_note { RegisterUnforgedByNote }
 {}
 
 // Worked cases of the rules and of the calls, whatever the seal kind.
