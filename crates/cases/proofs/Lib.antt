@@ -1,4 +1,4 @@
-mod Forging
+pub mod Forging
 mod Asked
 mod Notes
 mod Bare

@@ -2,3 +2,8 @@ pub mod Gathers
 pub mod Outcomes
 pub mod Parses
 pub mod Steps
+pub mod Bundled
+pub mod Traces
+pub mod Agreeing
+pub mod Opened
+pub mod Running

@@ -1,23 +1,26 @@
 -- What the exchange's answers come to in a rehearsal.
-use Rattle.std.proofs.Common.{◌≡◌, ℕ, ◌<◌, ◌≤◌, min, Bool, true, false, cond, ◌⊎◌, List, take, set, replicate, IfOk, Some, None, Ok, Err, Option, Result, sym, refl, ap, ◌∙◌, inl, inr, arith, le-ltb, MatchOption}
+use Rattle.std.proofs.Common.{◌≡◌, ℕ, ◌<◌, ◌≤◌, min, Bool, true, false, cond, ◌⊎◌, List, take, set, replicate, IfOk, Some, None, Ok, Err, Option, Result, sym, refl, ap, ◌∙◌, inl, inr, arith, le-ltb, MatchOption, ltb, [], ◌∷◌, subst, ap₂, subst₂, ltb-true}
 use Rattle.std.specs.Option.{option_map}
 use Rattle.std.proofs.lemmas.Bool.Decides.{nat_tests, leb_tells}
-use Rattle.refusal.specs.Questions.{after}
+use Rattle.refusal.specs.Questions.{after, whole}
 use Rattle.refusal.specs.declared.Refusal.{Refusal}
+use Rattle.refusal.specs.declared.Refusal.TheVariants.{StationHouse, NoSuchHouse}
 use Rattle.refusal.specs.declared.Refused.{Refused}
 use Rattle.sha256.specs.declared.value.Digest.{Digest}
 use Rattle.sha256.specs.Text.{digest_of}
 use Rattle.witness.specs.Opening.{opened}
 use Rattle.witness.specs.Rules.{Ruling}
 use Rattle.seal.specs.declared.register.Register.{Register}
+use Rattle.seal.specs.Meanings.{Signing}
 use Rattle.seal.specs.Registers.{register}
 use Rattle.exchange.specs.declared.station.Station.{Station}
 use Rattle.exchange.specs.declared.filing.Filing.{Filing}
-use Rattle.exchange.specs.Machine.{go_on, announce_answer, announce_station, note_answer, note_station, file_answer}
+use Rattle.exchange.specs.Machine.{go_on, announce_answer, announce_station, note_answer, note_station, file_answer, statement_of, note_questions, file_station}
+use Rattle.exchange.proofs.Questions.{asked, went_on}
 use Rattle.rehearsal.specs.declared.events.Event.{Event}
 use Rattle.rehearsal.specs.Events.{Meant, meant}
 use Rattle.rehearsal.specs.Bundles.{bundle_of}
-use Rattle.rehearsal.specs.Calls.{station_place, station_at, told, announce_outcome, announce_stations, note_outcome, note_stations, file_outcome}
+use Rattle.rehearsal.specs.Calls.{station_place, station_at, told, announce_outcome, announce_stations, note_outcome, note_stations, file_outcome, NoteLeft, file_stations}
 use Rattle.rehearsal.specs.declared.report.Line.{Line}
 use Rattle.rehearsal.specs.Reports.{open_lines}
 
@@ -67,6 +70,55 @@ note_stood r q ss e at j d s few here house digest is =
     ∙ (ap (λ (x : Digest). note_station r register q (station_at ss at) (min e.house 255) e.number x 2) digest
     ∙ note_same_station r q (station_at ss at) e.house e.number (digest_of e.text) few)))
     ∙ ap (λ (p : Result ℕ Refusal). after p (λ at. set ss at (note_station r register q (station_at ss at) e.house e.number (digest_of e.text) 2)) ss) here
+
+-- a taken note is for a house below n
+note_inside : (r : Ruling) (q : Register) (s : Station) (j k : ℕ) (d : Digest) (t : Unit {0}) → note_answer r register q s j k d 2 ≡ Ok t → j < r.houses
+note_inside r q s j k d t taken =
+    let first = went_on (note_questions r s j k d) _ t taken in
+    let own = asked (ltb s.house r.houses) (whole StationHouse) _ first.0 first.1.0 in
+    let its = asked (ltb j r.houses) (whole NoSuchHouse) _ first.0 own.1 in
+    ltb-true j r.houses its.0
+
+-- a taken note signs a statement of the event's own house
+note_names : (r : Ruling) (q : Register) (s : Station) (h k : ℕ) (d : Digest) (a : Result (Unit {0}) Refused) (own : ℕ) (m m' : List ℕ) (q' : Register) → r.houses ≤ 16
+    → a ≡ note_answer r register q s (min h 255) k d 2 → Signing register a own (statement_of r (min h 255) k d) q m q' m'
+    → Signing register a own (statement_of r h k d) q m q' m'
+note_names r q s h k d (Ok t) own m m' q' few is signing =
+    elim (capped_cases h) [
+      | inl e ↦ subst (λ (j : ℕ). register.signs q own (statement_of r j k d) m q' m') e signing
+      | inr e ↦ let below = note_inside r q s (min h 255) k d t (sym is) in absurd (omega (arith, below, e.0))
+    ]
+note_names r q s h k d (Err x) own m m' q' few is signing = signing
+
+-- the register after a note
+note_signed : (r : Ruling) (q : Register) (ss : List Station) (e : Meant) (at j : ℕ) (d : Digest) (a : Result (Unit {0}) Refused) (q' : Register) (m : List ℕ) → r.houses ≤ 16
+    → Ok at ≡ station_place r.houses e.at → j ≡ min e.house 255 → d ≡ digest_of e.text → a ≡ note_answer r register q (station_at ss at) j e.number d 2
+    → Signing register a (station_at ss at).house (statement_of r j e.number d) q (0 ∷ 0 ∷ []) q' m → NoteLeft r q ss e (station_place r.houses e.at) q'
+note_signed r q ss e at j d a q' m few here house digest is signing =
+    let s = station_at ss at in
+    let named : Result (Unit {0}) Refused → ℕ → Digest → Type 0 = λ a i x. Signing register a s.house (statement_of r i e.number x) q (0 ∷ 0 ∷ []) q' m in
+    let own = digest_of e.text in
+    let answer : a ≡ note_answer r register q s (min e.house 255) e.number own 2 = is ∙ ap₂ (λ (i : ℕ) (x : Digest). note_answer r register q s i e.number x 2) house digest in
+    let signs = note_names r q s e.house e.number own a s.house (0 ∷ 0 ∷ []) m q' few answer (subst₂ (named a) house digest signing) in
+    subst (λ (p : Result ℕ Refusal). NoteLeft r q ss e p q') here
+    (m, subst (λ (x : Result (Unit {0}) Refused). named x e.house own) (answer ∙ note_same r q s e.house e.number own few) signs)
+
+-- what a note of the exchange comes to: its outcome, the stations and the register after it
+pub record Noted (r : Ruling) (q : Register) (ss : List Station) (e : Meant) (at : ℕ) (a : Result (Unit {0}) Refused) (s : Station) (q' : Register) : Type 0 where
+  pub answer : told (λ _. q.used) a ≡ note_outcome r q ss e
+  pub stations : set ss at s ≡ note_stations r q ss e
+  pub register : NoteLeft r q ss e (station_place r.houses e.at) q'
+
+pub note_gave : (r : Ruling) (q : Register) (ss : List Station) (e : Meant) (at j : ℕ) (d : Digest) (a : Result (Unit {0}) Refused) (s : Station) (q' : Register) (m : List ℕ)
+    → r.houses ≤ 16 → Ok at ≡ station_place r.houses e.at → j ≡ min e.house 255 → d ≡ digest_of e.text
+    → a ≡ note_answer r register q (station_at ss at) j e.number d 2 → s ≡ note_station r register q (station_at ss at) j e.number d 2
+    → Signing register a (station_at ss at).house (statement_of r j e.number d) q (0 ∷ 0 ∷ []) q' m → Noted r q ss e at a s q'
+note_gave r q ss e at j d a s q' m few here house digest answers stands signs =
+    record {
+      answer = note_told r q ss e at j d a few here house digest answers;
+      stations = note_stood r q ss e at j d s few here house digest stands;
+      register = note_signed r q ss e at j d a q' m few here house digest answers signs;
+    }
 
 pub opened_same : (n t : ℕ) → opened (min n 255) (min t 255) ≡ opened n t
 opened_same n t =
@@ -122,3 +174,33 @@ file_told r q ss e at j d n m b a few here house digest is part files =
     ap (told (λ f. f.signers)) (files ∙ ap (λ (z : List ℕ). file_answer r register q (station_at ss at) z e.text) part)
     ∙ (ap (λ (z : Result (ℕ × List ℕ) Refusal). go_on z (filed r q ss e at)) (sym is ∙ named r q e j d (replicate 85 0) few house digest)
     ∙ ap (λ (p : Result ℕ Refusal). go_on p (bundled r q ss e)) here)
+
+abbrev stood : Ruling → Register → List Station → Meant → ℕ → (ℕ × List ℕ) → List Station
+stood r q ss e at y = set ss at (file_station r register q (station_at ss at) (take y.0 y.1) e.text)
+
+-- the stations after a file
+file_stood : (r : Ruling) (q : Register) (ss : List Station) (e : Meant) (at j : ℕ) (d : Digest) (n : ℕ) (m b : List ℕ) (s : Station) → r.houses ≤ 16 → Ok at ≡ station_place r.houses e.at → j ≡ min e.house 255 → d ≡ digest_of e.text → bundle_of r q j e.number d (replicate 85 0) ≡ Ok (n, m) → b ≡ take n m → s ≡ file_station r register q (station_at ss at) b e.text → set ss at s ≡ file_stations r q ss e
+file_stood r q ss e at j d n m b s few here house digest is part files =
+    ap (λ (x : Station). set ss at x) (files ∙ ap (λ (z : List ℕ). file_station r register q (station_at ss at) z e.text) part)
+    ∙ (ap (λ (z : Result (ℕ × List ℕ) Refusal). after z (stood r q ss e at) ss) (sym is ∙ named r q e j d (replicate 85 0) few house digest)
+    ∙ ap (λ (p : Result ℕ Refusal). after p (λ at. after (bundle_of r q e.house e.number (digest_of e.text) (replicate 85 0)) (stood r q ss e at) ss) ss) here)
+
+pub file_unstood : (r : Ruling) (q : Register) (ss : List Station) (e : Meant) (at j : ℕ) (d : Digest) (x : Refusal) → r.houses ≤ 16 → Ok at ≡ station_place r.houses e.at → j ≡ min e.house 255 → d ≡ digest_of e.text → bundle_of r q j e.number d (replicate 85 0) ≡ Err x → ss ≡ file_stations r q ss e
+file_unstood r q ss e at j d x few here house digest is =
+    ap (λ (z : Result (ℕ × List ℕ) Refusal). after z (stood r q ss e at) ss) (sym is ∙ named r q e j d (replicate 85 0) few house digest)
+    ∙ ap (λ (p : Result ℕ Refusal). after p (λ at. after (bundle_of r q e.house e.number (digest_of e.text) (replicate 85 0)) (stood r q ss e at) ss) ss) here
+
+-- what a file of the exchange comes to: its outcome and the stations after it
+pub record Filed (r : Ruling) (q : Register) (ss : List Station) (e : Meant) (at : ℕ) (a : Result Filing Refused) (s : Station) : Type 0 where
+  pub answer : told (λ f. f.signers) a ≡ file_outcome r q ss e
+  pub stations : set ss at s ≡ file_stations r q ss e
+
+pub file_gave : (r : Ruling) (q : Register) (ss : List Station) (e : Meant) (at j : ℕ) (d : Digest) (n : ℕ) (m b : List ℕ) (a : Result Filing Refused) (s : Station)
+    → r.houses ≤ 16 → Ok at ≡ station_place r.houses e.at → j ≡ min e.house 255 → d ≡ digest_of e.text
+    → bundle_of r q j e.number d (replicate 85 0) ≡ Ok (n, m) → b ≡ take n m
+    → a ≡ file_answer r register q (station_at ss at) b e.text → s ≡ file_station r register q (station_at ss at) b e.text → Filed r q ss e at a s
+file_gave r q ss e at j d n m b a s few here house digest is part answers stands =
+    record {
+      answer = file_told r q ss e at j d n m b a few here house digest is part answers;
+      stations = file_stood r q ss e at j d n m b s few here house digest is part stands;
+    }

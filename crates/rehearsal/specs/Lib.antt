@@ -4,3 +4,4 @@ pub mod Events
 pub mod Openings
 pub mod Reports
 pub mod Calls
+pub mod Playing

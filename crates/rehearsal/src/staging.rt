@@ -1,11 +1,13 @@
 // The exchange of a rehearsal with a station for each house, and the calls played on them.
-ghost use Rattle.std.specs.Prelude.{◌≡◌, ◌<◌, ◌≤◌, length, IfOk, Ok, Err, MatchResult};
+ghost use Rattle.std.specs.Prelude.{◌≡◌, ◌<◌, ◌≤◌, [], length, IfOk, Ok, Err, MatchResult};
 ghost use Rattle.std.specs.Option.{option_map};
 ghost use Rattle.seal.specs.Registers.{row_at};
 ghost use Rattle.seal.specs.Rows.{entry_of, same_statement};
+ghost use Rattle.exchange.specs.Stations.{fresh_station};
 ghost use Rattle.rehearsal.specs.Bundles.{row_step, rows_from, bundle_of};
-ghost use Rattle.rehearsal.specs.Calls.{station_place, announce_outcome, announce_stations, note_outcome, note_stations, file_outcome, Gave, shown_event, first_event, after_first};
+ghost use Rattle.rehearsal.specs.Calls.{station_place, announce_outcome, announce_stations, note_outcome, note_stations, NoteLeft, file_outcome, file_stations, Gave, stations_after, Left, shown_event, first_event, after_first};
 ghost use Rattle.rehearsal.specs.Events.{meant};
+ghost use Rattle.rehearsal.specs.Playing.{Fresh, Opens, Ran, Staged};
 
 use crate::events::{Call, Event, parse};
 use crate::fields::{LINE_END, capped, cut};
@@ -33,6 +35,7 @@ pub(crate) struct Stage<R: Rule> {
 
 fn station(house: u8) -> Station
     requires { house < 16 }
+    ensures { result ≡ fresh_station house }
 {
     match Station::open(house) {
         Ok(station) => station,
@@ -46,16 +49,35 @@ fn same(x: Statement, y: Statement) -> bool
     x == y
 }
 
-fn fresh_stations() -> [Station; STATIONS] {
-    let mut stations = [station(0); STATIONS];
-    for i in 0..STATIONS {
-        stations[i] = station(i as u8);
-    }
-    stations
+// A fresh station for each house, at the house's place.
+fn fresh_stations() -> [Station; STATIONS]
+    ensures { Fresh result }
+{
+    [
+        station(0),
+        station(1),
+        station(2),
+        station(3),
+        station(4),
+        station(5),
+        station(6),
+        station(7),
+        station(8),
+        station(9),
+        station(10),
+        station(11),
+        station(12),
+        station(13),
+        station(14),
+        station(15),
+    ]
 }
 
 impl<R: Rule + Drop> Stage<R> {
-    fn open(heap: Global, rule: R) -> Result<Stage<R>, AllocError> {
+    fn open(heap: Global, rule: R) -> Result<Stage<R>, AllocError>
+        ensures rule { IfOk result (λ s. s.exchange.rule ≡ rule) }
+        ensures opens { IfOk result (λ s. Opens (R.Rule.ruling rule).houses s.exchange.seal s.stations) }
+    {
         let houses = rule.houses();
         let table = Table::new(heap, ROWS_EACH * houses as usize)?;
         Ok(Stage {
@@ -92,6 +114,7 @@ impl<R: Rule + Drop> Stage<R> {
         ensures answer { result ≡ note_outcome (R.Rule.ruling self.old.exchange.rule) self.old.exchange.seal self.old.stations (meant event.entry) }
         ensures stations { self.new.stations ≡ note_stations (R.Rule.ruling self.old.exchange.rule) self.old.exchange.seal self.old.stations (meant event.entry) }
         ensures rule { self.new.exchange.rule ≡ self.old.exchange.rule }
+        ensures register { NoteLeft (R.Rule.ruling self.old.exchange.rule) self.old.exchange.seal self.old.stations (meant event.entry) (station_place (R.Rule.ruling self.old.exchange.rule).houses event.entry.at) self.new.exchange.seal }
     {
         let at = self.station_of(event.at)?;
         let row = self.exchange.seal().used();
@@ -190,6 +213,7 @@ impl<R: Rule + Drop> Stage<R> {
 
     fn file(&mut self, event: Event) -> Result<usize, Refusal>
         ensures answer { result ≡ file_outcome (R.Rule.ruling self.old.exchange.rule) self.old.exchange.seal self.old.stations (meant event.entry) }
+        ensures stations { self.new.stations ≡ file_stations (R.Rule.ruling self.old.exchange.rule) self.old.exchange.seal self.old.stations (meant event.entry) }
         ensures exchange { self.new.exchange ≡ self.old.exchange }
     {
         let at = self.station_of(event.at)?;
@@ -211,6 +235,8 @@ impl<R: Rule + Drop> Stage<R> {
         ensures call { result.call ≡ shown_event (option_map meant event.entry) }
         ensures outcome { Gave (R.Rule.ruling self.old.exchange.rule) self.old.exchange.seal self.old.stations (option_map meant event.entry) result.outcome }
         ensures rule { self.new.exchange.rule ≡ self.old.exchange.rule }
+        ensures stations { self.new.stations ≡ stations_after (R.Rule.ruling self.old.exchange.rule) self.old.exchange.seal self.old.stations (option_map meant event.entry) }
+        ensures register { Left (R.Rule.ruling self.old.exchange.rule) self.old.exchange.seal self.old.stations (option_map meant event.entry) self.new.exchange.seal }
     {
         let (call, outcome) = match event {
             None => (Shown::Line, Err(Refusal::BadLine)),
@@ -228,7 +254,12 @@ impl<R: Rule + Drop> Stage<R> {
     }
 
     // Runs the event lines in their order.
-    fn run_all(&mut self, heap: Global, events: &[u8]) -> Result<Vec<Line>, AllocError> {
+    fn run_all(&mut self, heap: Global, events: &[u8]) -> Result<Vec<Line>, AllocError>
+        ensures { IfOk result (λ v. Ran (R.Rule.ruling self.old.exchange.rule)
+            (record { register = self.old.exchange.seal; stations = self.old.stations; rest = events.now })
+            (record { register = self.new.exchange.seal; stations = self.new.stations; rest = [] })
+            v.items) }
+    {
         let mut report = Vec::new(heap);
         let mut rest = events;
         while !rest.is_empty() {
@@ -259,7 +290,9 @@ pub(crate) fn play<R: Rule + Drop>(
     heap: Global,
     rule: R,
     events: &[u8],
-) -> Result<Vec<Line>, AllocError> {
+) -> Result<Vec<Line>, AllocError>
+    ensures { IfOk result (λ v. Staged (R.Rule.ruling rule) events.now v.items) }
+{
     let mut stage = Stage::open(heap, rule)?;
     stage.run_all(heap, events)
 }
