@@ -104,7 +104,7 @@ impl Refusal {
     }
 }
 
-// A derived one would say nothing of so many variants.
+// Written by hand, so that its contract says outright that it decides whether the two are one.
 impl PartialEq for Refusal {
     ghost eq = { on number_of nat_eq };
 

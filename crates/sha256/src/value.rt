@@ -19,7 +19,7 @@ fn same(x: [u64; 4], y: [u64; 4]) -> bool
     a == e && b == f && c == g && d == h
 }
 
-// A derived one would say nothing of an array.
+// Written by hand, so that its contract says outright that it decides whether the two are one.
 impl PartialEq for Digest {
     ghost eq = { on (λ x. x.words) (pointwise nat_eq) };
 

@@ -1,4 +1,4 @@
--- Sets of houses as numbers: house i is a member where bit i is 1. `ones` counts the members.
+-- Sets of houses as numbers: house i is a member where bit i is 1. `count_ones` counts the members.
 use Rattle.std.specs.Prelude.{◌≡◌, ℕ, zero, suc, ◌+◌, ◌-◌, ◌*◌, ◌^◌, List, [], ◌∷◌, bit_and, bit_or, bit_xor}
 use Rattle.bits.specs.Bits.{has}
 
