@@ -1,58 +1,57 @@
 -- One house announces, notes, gathers, issues and files.
-use Rattle.std.proofs.Common.{◌≡◌, ℕ, zero, suc, ◌/◌, ◌%◌, ◌<◌, ◌≤◌, true, ltb, leb, List, [], ◌∷◌, ◌++◌, length, replicate, Ok, Result, sym, refl, ap, ◌∙◌, subst, ap₂, inl, inr, ⊎_elim, arith, lit≤}
+use Rattle.std.proofs.Common.{◌≡◌, ℕ, ◌<◌, ◌≤◌, true, leb, List, [], ◌∷◌, ◌++◌, length, replicate, Ok, Result, sym, refl, ap, ◌∙◌, inl, inr, ⊎_elim, arith, lit≤}
 use lib.Count.{ones}
 use lib.Seq.{paste}
-use Rattle.std.proofs.lemmas.Bool.{lt-ltb, le-leb, cond-true}
+use Rattle.std.proofs.lemmas.Bool.{le-leb}
 use Rattle.bits.specs.Bits.{has}
-use Rattle.refusal.specs.Questions.{after, whole}
+use Rattle.refusal.specs.Questions.{whole}
 use Rattle.refusal.specs.declared.Refused.{Refused}
-use Rattle.refusal.specs.declared.Refusal.TheVariants.{PagesTooLong, NoSealLeft, SealFails}
-use Rattle.sha256.specs.declared.value.Digest.{Digest}
+use Rattle.refusal.specs.declared.Refusal.TheVariants.{PagesTooLong, SealFails}
 use Rattle.sha256.specs.Text.{digest_of, bytes32}
 use Rattle.edition.specs.Pages.{most_bytes}
 use Rattle.seal.specs.declared.register.Register.{Register}
 use Rattle.seal.specs.declared.statement.Statement.{Statement}
-use Rattle.seal.specs.Houses.{shares, left_of}
-use Rattle.seal.specs.Registers.{Unused, register}
+use Rattle.seal.specs.Registers.{Unused, Entered, register}
+use Rattle.seal.specs.Rows.{row_bytes}
 use Rattle.seal.specs.Statements.{laid_out, statement_bytes}
 use Rattle.seal.specs.RegisterLaws.{register_meant}
 use Rattle.exchange.specs.declared.station.Station.{Station}
 use Rattle.exchange.specs.declared.gathering.Gathering.{Gathering}
 use Rattle.exchange.specs.declared.gathering.Closed.{Closed}
 use Rattle.exchange.specs.declared.filing.Filing.{Filing}
-use Rattle.exchange.specs.Stations.{fresh_station, row_of, noted_row, with_row}
+use Rattle.exchange.specs.Stations.{fresh_station}
 use Rattle.exchange.specs.Layout.{head_bytes, bundle_statement}
-use Rattle.exchange.specs.Machine.{statement_of, go_on, placed, at_receipt, receipt_answer, with_house, announce_answer, note_answer, add_answer, walk, file_answer, file_station}
+use Rattle.exchange.specs.Machine.{statement_of, go_on, at_receipt, receipt_answer, with_house, announce_answer, add_answer, walk, file_answer, file_station}
 use Rattle.exchange.specs.Runs.{Event, announced, noted, started, added, closed, issued, filed, World, open_with, closed_with, gone, opened, at_station, at_gathering, at_seal, Step, Run, Some, Each}
 use Rattle.exchange.specs.Law.{Hands, Fair, Conditions}
 use Rattle.exchange.proofs.Questions.{yes_to}
 use Rattle.exchange.proofs.Files.{file_read}
+use Rattle.cases.specs.Dishonest.{seal_memory}
 use Rattle.cases.specs.Filing.{alone, only_zero, RunThatFiles, ConditionsCanHold, ConditionsCanHoldOpened}
 use Rattle.cases.proofs.Asked.{all_asked}
 use Rattle.cases.proofs.Forging.{register_unforged}
+use Rattle.cases.proofs.Taken as taken
 use Rattle.exchange.proofs.Heads.{stated}
 
--- memory for one seal, and for a bundle of one receipt
-abbrev seal_memory : List ℕ
-seal_memory = 0 ∷ 0 ∷ []
-
+-- memory for a bundle of one receipt
 abbrev bundle_memory : List ℕ
 bundle_memory = replicate 40 0
 
--- over the pages, the register before and after house 0 signs, and the two bytes of its seal
-module _ (p : List ℕ) (e s : Register) (high low : ℕ) where
+-- over the pages, and the register before and after house 0 signs
+module _ (p : List ℕ) (e s : Register) where
+  -- the seal of house 0
   abbrev z : List ℕ
-  z = high ∷ low ∷ []
+  z = row_bytes e.used
 
   abbrev statement : Statement
   statement = statement_of alone 0 1 (digest_of p)
 
   -- the station after announcing, and after noting
   abbrev announcing : Station
-  announcing = record { house = 0; announced = 1; rows = (fresh_station 0).rows }
+  announcing = taken.one_more (fresh_station 0)
 
   abbrev noting : Station
-  noting = with_row announcing 0 (noted_row (row_of announcing 0) 1 (digest_of p))
+  noting = taken.with_note announcing 0 1 (digest_of p)
 
   -- the gathering at its start, and with the receipt
   abbrev starting : Gathering
@@ -154,16 +153,12 @@ module _ (p : List ℕ) (e s : Register) (high low : ℕ) where
       first : (i : ℕ) → i < 1 → 0 ≡ i
       first i h = omega arith
 
-  module _ (within : length p ≤ most_bytes) (had : 0 < register.left e 0) (t : register.signs e 0 statement seal_memory s z) where
+  module _ (within : length p ≤ most_bytes) (t : Entered e 0 statement seal_memory s z) where
     checks : register.checks s 0 statement z ≡ true
     checks = (register_meant.sound e 0 statement seal_memory s z t).seals
 
     announces : announce_answer alone (fresh_station 0) p ≡ Ok (1, digest_of p)
     announces = yes_to (leb (length p) most_bytes) (whole PagesTooLong) (Ok (1, digest_of p)) (le-leb (length p) most_bytes within)
-
-    notes : note_answer alone register e announcing 0 1 (digest_of p) 2 ≡ Ok tt
-    unfolding has
-    notes = ap placed (yes_to (ltb 0 (register.left e 0)) NoSealLeft (Ok tt) (lt-ltb 0 (register.left e 0) had))
 
     adds : add_answer alone register s starting 0 z 40 ≡ Ok tt
     unfolding has ones
@@ -191,23 +186,18 @@ module _ (p : List ℕ) (e s : Register) (high low : ℕ) where
         (sym reads) refl walks
 
     s1 : Step alone register w0 c1 w1
-    s1 = (sym announces, ap (λ (y : Result (ℕ × Digest) Refused). at_station w0 0 (after y (λ _. announcing) (fresh_station 0))) (sym announces))
+    s1 = taken.announces alone w0 0 p (1, digest_of p) announces
 
     s2 : Step alone register w1 c2 w2
-    s2 = (s, sym notes, t, ap (λ (y : Result (Unit {0}) Refused). at_seal (at_station w1 0 (after y (λ _. noting) announcing)) s) (sym notes))
+    unfolding has
+    s2 = taken.notes alone w1 0 0 1 (digest_of p) seal_memory s z refl t
 
     s3 : Step alone register w2 c3 w3
     s3 = (refl, refl, refl)
 
     s4 : Step alone register w3 c4 w4
     unfolding ones
-    s4 = (
-      starting,
-      refl,
-      sym adds,
-      ap (λ (y : Result (Unit {0}) Refused). after y (λ _. with_receipt) bundle_memory) (sym adds),
-      ap (λ (y : Result (Unit {0}) Refused). at_gathering w3 0 (open_with (after y (λ _. adding) starting))) (sym adds),
-    )
+    s4 = taken.adds alone w3 0 0 starting z bundle_memory refl adds
 
     s5 : Step alone register w4 c5 w5
     unfolding ones
@@ -244,19 +234,8 @@ module _ (p : List ℕ) (e s : Register) (high low : ℕ) where
 
 pub conditions_can_hold : ConditionsCanHold
 conditions_can_hold p e within unused had =
-    let statement = statement_of alone 0 1 (digest_of p) in
-    let step = register_meant.goes e 0 statement seal_memory had (lit≤ tt) in
-    let t = step.1.1 in
-    filing_run p e step.0 (e.used / 256) (e.used % 256) within had
-    (subst (λ (m : List ℕ). register.signs e 0 statement seal_memory step.0 m) t.writes t) unused
-
--- what house 0 has at the opening
-first_share : (n each : ℕ) → 0 < n → left_of n (shares n each) 0 ≡ each
-unfolding shares
-first_share zero each h = absurd (omega arith)
-first_share (suc n) each h = cond-true (ltb 0 (suc n)) each 0 (lt-ltb 0 (suc n) h)
+    taken.signs_next e 0 (statement_of alone 0 1 (digest_of p)) had (λ s t. filing_run p e s within t unused)
 
 pub conditions_can_hold_opened : ConditionsCanHoldOpened
 conditions_can_hold_opened p e n each table within begun some share =
-    let same = ap₂ (λ (m : ℕ) (left : List ℕ). left_of m left 0) begun.of_houses begun.all_left ∙ first_share n each some in
-    conditions_can_hold p e within begun.none_used (omega (arith, same))
+    conditions_can_hold p e within begun.none_used (omega (arith, taken.begun_left e n each table begun 0 some))

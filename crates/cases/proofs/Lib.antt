@@ -4,4 +4,6 @@ mod Notes
 mod Bare
 mod Cases
 mod Over
+mod Taken
 mod Example
+mod Dishonest

@@ -2,3 +2,4 @@ pub mod Forging
 pub mod Cases
 pub mod Unused
 pub mod Filing
+pub mod Dishonest

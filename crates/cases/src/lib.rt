@@ -2,6 +2,7 @@
 #![tactic(auto)]
 
 ghost use Rattle.cases.specs.Cases.{Cases};
+ghost use Rattle.cases.specs.Dishonest.{OneCanBeDishonest, OneCanBeDishonestOpened};
 ghost use Rattle.cases.specs.Filing.{ConditionsCanHold, ConditionsCanHoldOpened};
 ghost use Rattle.cases.specs.Forging.{RegisterUnforged, RegisterUnforgedByNote};
 
@@ -30,4 +31,11 @@ pub fn cases_of_calls<S: Seal>()
 pub fn a_run_that_files()
     ensures unused { ConditionsCanHold }
     ensures opened { ConditionsCanHoldOpened }
+{}
+
+// They can be met with a house that is not honest: a run of four houses in which one signs two digests for one number, and an honest
+// house files the one that was announced. Of two digests handed to it in that house's name for one number it notes one and refuses the other.
+pub fn a_run_with_a_dishonest_house()
+    ensures unused { OneCanBeDishonest }
+    ensures opened { OneCanBeDishonestOpened }
 {}
