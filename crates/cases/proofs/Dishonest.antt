@@ -1,14 +1,12 @@
 -- Four houses, of which one signs two digests for one number: an honest house files the one that was announced.
-use Rattle.std.proofs.Common.{◌≡◌, ℕ, zero, suc, ◌<◌, ◌≤◌, Bool, true, false, ◌&&◌, eqb, get_or, ap, leb, List, [], ◌∷◌, ◌++◌, length, replicate, Ok, Err, sym, refl, ◌∙◌, subst, inl, inr, ⊎_elim, arith, lit≤}
+use Rattle.std.proofs.Common.{◌≡◌, ℕ, zero, suc, ◌<◌, ◌≤◌, true, false, eqb, leb, List, [], ◌∷◌, ◌++◌, length, replicate, Ok, Err, sym, refl, ◌∙◌, subst, inl, inr, ⊎_elim, arith, lit≤}
 use lib.Count.{ones}
 use lib.Seq.{paste}
-use Rattle.std.proofs.lemmas.Bool.{le-leb, eqb-false, eqb-true, and_parts, cases_Bool}
+use Rattle.std.proofs.lemmas.Bool.{le-leb, eqb-false, cases_Bool}
 use Rattle.bits.specs.Bits.{has}
 use Rattle.refusal.specs.Questions.{whole}
 use Rattle.refusal.specs.declared.Refusal.TheVariants.{PagesTooLong, SealFails, OtherDigestNoted}
 use Rattle.sha256.specs.Text.{digest_of, bytes32}
-use Rattle.sha256.specs.declared.value.Digest.{Digest}
-use Rattle.sha256.proofs.Digests.{same_words}
 use Rattle.edition.specs.Pages.{most_bytes}
 use Rattle.seal.specs.declared.register.Register.{Register}
 use Rattle.seal.specs.declared.statement.Statement.{Statement}
@@ -29,21 +27,11 @@ use Rattle.exchange.proofs.Questions.{yes_to, no_to}
 use Rattle.exchange.proofs.Files.{file_read}
 use Rattle.exchange.proofs.Heads.{stated}
 use Rattle.exchange.proofs.Walking.{Gathers, gathers_walk}
+use Rattle.exchange.proofs.Backing.{digests_same}
 use Rattle.cases.specs.Dishonest.{four, all_but_three, states, seal_memory, RunWithTwoDigests, OneCanBeDishonest, OneCanBeDishonestOpened}
 use Rattle.cases.proofs.Asked.{all_asked}
 use Rattle.cases.proofs.Forging.{register_unforged}
 use Rattle.cases.proofs.Taken as taken
-
--- digests that are tested to be the same are the same
-digests_same : (x y : Digest) → length x.words ≡ 4 → length y.words ≡ 4 → same_digest x y ≡ true → x ≡ y
-digests_same x y four_words other e =
-    let word : ℕ → Digest → ℕ = λ i d. get_or d.words i 0 in
-    let same : ℕ → Bool = λ i. eqb (word i x) (word i y) in
-    let last = and_parts (same 0 && same 1 && same 2) (same 3) e in
-    let third = and_parts (same 0 && same 1) (same 2) last.0 in
-    let second = and_parts (same 0) (same 1) third.0 in
-    ap (λ (ws : List ℕ). record { words = ws }) (same_words x.words y.words four_words other
-    (eqb-true _ _ second.0) (eqb-true _ _ second.1) (eqb-true _ _ third.1) (eqb-true _ _ last.1))
 
 -- different digests are tested to be different
 told_apart : (p q : List ℕ) → (digest_of p ≡ digest_of q → ⊥) → same_digest (digest_of p) (digest_of q) ≡ false

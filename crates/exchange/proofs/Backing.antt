@@ -20,7 +20,7 @@ use Rattle.exchange.proofs.Stations.{Signed}
 use Rattle.exchange.proofs.Walks.{signer_receipted, receipt_whole}
 
 -- digests of four words that are tested to be the same are the same
-digests_same : (x y : Digest) → length x.words ≡ 4 → length y.words ≡ 4 → same_digest x y ≡ true → x ≡ y
+pub digests_same : (x y : Digest) → length x.words ≡ 4 → length y.words ≡ 4 → same_digest x y ≡ true → x ≡ y
 digests_same x y four other e =
     let word : ℕ → Digest → ℕ = λ i d. get_or d.words i 0 in
     let same : ℕ → Bool = λ i. eqb (word i x) (word i y) in
