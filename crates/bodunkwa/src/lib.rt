@@ -1,4 +1,4 @@
-// The functions that C programs call; include/bodunkwa.h declares them.
+// What C programs are answered; the crate bodunkwa_c gives them these functions by name, and include/bodunkwa.h declares them.
 #![tactic(auto)]
 
 ghost use Rattle.std.specs.Prelude.{◌≡◌, Decides};
@@ -30,8 +30,7 @@ fn write_digest(pages: &[u8], memory: &mut [u8]) -> Result<(), Refusal>
 
 // The digest of the pages, in the first 32 bytes of the memory: 0 when it is done, 7 where the pages are
 // out of bounds, else 15 where the memory is too small.
-#[unsafe(no_mangle)]
-pub extern "C" fn bodunkwa_digest(pages: &[u8], memory: &mut [u8]) -> u32
+pub fn bodunkwa_digest(pages: &[u8], memory: &mut [u8]) -> u32
     ensures answer { result ≡ number (digest_answer pages.now memory.old) }
     ensures memory { memory.new ≡ digest_memory pages.now memory.old }
 {
@@ -51,8 +50,7 @@ fn checks(key: &[u8], statement: &[u8], stamp: &[u8]) -> bool
 }
 
 // Whether a stamp checks: 1 for yes, 0 for no.
-#[unsafe(no_mangle)]
-pub extern "C" fn bodunkwa_stamp_checks(key: &[u8], statement: &[u8], stamp: &[u8]) -> u32
+pub fn bodunkwa_stamp_checks(key: &[u8], statement: &[u8], stamp: &[u8]) -> u32
     ensures { OneWhere (StampChecks key.now statement.now stamp.now) result }
 {
     if checks(key, statement, stamp) { 1 } else { 0 }

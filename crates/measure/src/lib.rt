@@ -1,5 +1,5 @@
 // What bench/ times beside plain Rust: many stamps under one prepared key, each of a statement that begins with the stamp before.
-// Nothing else links it.
+// The crate measure_c gives it to bench/ by name.
 #![tactic(auto)]
 
 ghost use Rattle.std.specs.Prelude.{◌≡◌, ◌≤◌, ◌++◌, length, drop};
@@ -38,8 +38,7 @@ fn chain(key: &PreparedKey, turns: u32) -> [u8; STATEMENT_BYTES]
 }
 
 // Writes the statement after so many stamps to the front of the memory.
-#[unsafe(no_mangle)]
-pub extern "C" fn measure_stamps(key: &[u8], turns: u32, memory: &mut [u8])
+pub fn measure_stamps(key: &[u8], turns: u32, memory: &mut [u8])
     ensures { memory.new ≡ chain_memory key.now turns memory.old }
 {
     if memory.len() >= STATEMENT_BYTES {
