@@ -110,6 +110,7 @@ impl PartialEq for Refusal {
 
     ghost laws = { Prim.search (comparing, rules) };
 
+    #[tactic(auto, using(crate::proofs::Numbers::same_number))]
     fn eq(&self, other: &Refusal) -> bool
         ensures answers { result ≡ on number_of nat_eq self.now other.now }
         ensures decides { Decides result (self.now ≡ other.now) }
