@@ -7,6 +7,7 @@ ghost use Rattle.refusal.specs.Places.{refused_text};
 ghost use Rattle.refusal.specs.Questions.{ask, at_receipt, whole};
 ghost use Rattle.refusal.specs.Texts.{text_of};
 
+use std::error::Error;
 use std::fmt;
 use std::num::NonZeroU8;
 
@@ -118,6 +119,8 @@ impl fmt::Display for Refusal {
     }
 }
 
+impl Error for Refusal {}
+
 // A refusal, and the place of the receipt that it fell on, counted from 1, if it fell on one.
 #[derive(Clone, Copy, PartialEq, Eq, Debug)]
 pub struct Refused {
@@ -169,6 +172,8 @@ impl fmt::Display for Refused {
         }
     }
 }
+
+impl Error for Refused {}
 
 #[cfg(test)]
 mod tests {
