@@ -6,6 +6,8 @@ ghost use Rattle.witness.specs.Consequences.{HonestInCommon, HonestSuffice};
 ghost use Rattle.witness.specs.Counting.{Counts, Weighs};
 
 mod all;
+mod counted;
+mod houses;
 mod rotating;
 mod rule;
 
