@@ -1,5 +1,5 @@
 // The rule Rotating: 3t + 1 witnesses, which move around the circle of houses from number to number.
-ghost use Rattle.std.specs.Prelude.{◌+◌, ◌*◌};
+ghost use Rattle.std.specs.Prelude.{◌≡◌, ◌+◌, ◌*◌};
 ghost use Rattle.witness.specs.Laws.{rotating_lawful};
 ghost use Rattle.witness.specs.Rotating.{circle, rotating_mark, rotating_need};
 
@@ -24,13 +24,20 @@ impl Witnesses for NextHouses {
     const MARK: u8 = 2;
 
     fn named(houses: &Houses, house: u8, number: Number) -> u16 {
-        let first = u32::from(house) + u32::from(number);
-        (0..3 * houses.faults + 1).fold(0, |set, r| {
-            set | 1 << ((first + u32::from(r)) % u32::from(houses.count))
-        })
+        around(houses, house, number, 3 * houses.faults + 1)
     }
 
     fn need(houses: &Houses) -> u8 {
         2 * houses.faults + 1
     }
+}
+
+// So many houses, one after the other around the circle. The first of them is as many steps on from the house as the number says.
+fn around(houses: &Houses, house: u8, number: Number, many: u8) -> u16
+    ensures { result ≡ circle houses.now.count (house + number) many }
+{
+    let first = u32::from(house) + u32::from(number);
+    (0..many).fold(0, |set, r| {
+        set | 1 << ((first + u32::from(r)) % u32::from(houses.count))
+    })
 }
