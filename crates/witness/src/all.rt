@@ -9,6 +9,7 @@ use edition::Number;
 
 pub type All = Counted<EveryHouse>;
 
+// Every house is named, for each house and number.
 #[derive(Clone, Copy)]
 pub struct EveryHouse;
 

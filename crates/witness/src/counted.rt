@@ -32,6 +32,7 @@ pub trait Witnesses {
     ghost lawful: { (n t : ℕ) → 1 ≤ n → n ≤ most_houses → 3 * t + 1 ≤ n → Lawful (counted n t MARK (named n t) (need n t)) };
 }
 
+// A rule that counts the members that W names.
 #[derive(Clone, Copy)]
 pub struct Counted<W> {
     houses: Houses,

@@ -9,6 +9,7 @@ use edition::Number;
 
 pub type Rotating = Counted<NextHouses>;
 
+// The houses that come next around the circle are named.
 #[derive(Clone, Copy)]
 pub struct NextHouses;
 
