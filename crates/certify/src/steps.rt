@@ -35,7 +35,7 @@ type FourHouses = Exchange<Rotating, Register>;
 type Seals = [[u8; SEAL_BYTES]; WITNESSES];
 
 pub fn opened(heap: Global) -> Result<FourHouses, Stop>
-    ensures rule { IfOk result (λ x. (x.rule.houses ≡ 4) × (x.rule.faults ≡ 1)) }
+    ensures rule { IfOk result (λ x. (x.rule.houses.count ≡ 4) × (x.rule.houses.faults ≡ 1)) }
     ensures register { IfOk result (λ x. (x.seal.houses ≡ 4) × (x.seal.used ≡ 0)) }
 {
     let rule = Rotating::open(HOUSES, FAULTS)?;

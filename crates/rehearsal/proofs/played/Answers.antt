@@ -25,10 +25,10 @@ returns-in-Err-open-clause-lines c =
 
 pub returns-in-Ok-clause-lines : goal.returns-in-Ok-clause-lines
 returns-in-Ok-clause-lines c =
-    made_as _ _ (λ v. lines_staged (begin c.args.opening) c.capped-houses.result c.capped-faults.result c.capped-houses.ensures c.capped-faults.ensures All c.in-Ok.rule.houses c.in-Ok.rule.faults (vec_items v) c.in-All.is c.in-Ok.ensures)
+    made_as _ _ (λ v. lines_staged (begin c.args.opening) c.capped-houses.result c.capped-faults.result c.capped-houses.ensures c.capped-faults.ensures All c.in-Ok.rule.houses.count c.in-Ok.rule.houses.faults (vec_items v) c.in-All.is c.in-Ok.ensures)
     c.play.result c.play.ensures
 
 pub returns-in-Ok-open-clause-lines : goal.returns-in-Ok-open-clause-lines
 returns-in-Ok-open-clause-lines c =
-    made_as _ _ (λ v. lines_staged (begin c.args.opening) c.capped-houses.result c.capped-faults.result c.capped-houses.ensures c.capped-faults.ensures Rotating c.in-Ok-open.rule.houses c.in-Ok-open.rule.faults (vec_items v) c.in-Rotating.is c.in-Ok-open.ensures)
+    made_as _ _ (λ v. lines_staged (begin c.args.opening) c.capped-houses.result c.capped-faults.result c.capped-houses.ensures c.capped-faults.ensures Rotating c.in-Ok-open.rule.houses.count c.in-Ok-open.rule.houses.faults (vec_items v) c.in-Rotating.is c.in-Ok-open.ensures)
     c.play-in-Ok-open.result c.play-in-Ok-open.ensures
