@@ -1,27 +1,19 @@
 // The compression of one block: the schedule is worked out sixteen words ahead of the rounds, so that the two overlap.
-ghost use Rattle.std.specs.Prelude.{◌≡◌, ◌+◌, ◌<◌, length, take, slice_set};
+ghost use Rattle.std.specs.Prelude.{◌≡◌, ◌+◌, ◌<◌, take, slice_set};
 ghost use Rattle.sha256.specs.declared.state.State.{State};
-ghost use Rattle.sha256.specs.Schedule.{word, words, next, scheduled};
+ghost use Rattle.sha256.specs.Schedule.{words, next, scheduled};
 ghost use Rattle.sha256.specs.Compression.{round, rounds, added, compressed};
 
 use crate::constants::K;
 use crate::functions::{choose, lower_sigma0, lower_sigma1, majority, upper_sigma0, upper_sigma1};
 use crate::state::State;
 
-fn word_at(block: &[u8], i: usize) -> u32
-    requires { (i < 16) × (length block.now ≡ 64) }
-    ensures { result ≡ word block.now i }
-{
-    let at = 4 * i;
-    u32::from_be_bytes([block[at], block[at + 1], block[at + 2], block[at + 3]])
-}
-
-fn load(w: &mut [u32; 64], block: &[u8])
-    requires { length block.now ≡ 64 }
+fn load(w: &mut [u32; 64], block: &[u8; 64])
     ensures { take 16 w.new ≡ words 16 block.now }
 {
-    for i in 0..16 {
-        w[i] = word_at(block, i);
+    let (words, _) = block.as_chunks::<4>();
+    for (i, bytes) in words.iter().enumerate() {
+        w[i] = u32::from_be_bytes(*bytes);
     }
 }
 
@@ -96,8 +88,7 @@ fn late_rounds(early: State, w: &[u32; 64]) -> State
     s
 }
 
-pub(crate) fn compress(start: State, block: &[u8]) -> State
-    requires { length block.now ≡ 64 }
+pub(crate) fn compress(start: State, block: &[u8; 64]) -> State
     ensures { result ≡ compressed start block.now }
 {
     let mut w = [0; 64];

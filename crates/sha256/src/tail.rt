@@ -30,10 +30,11 @@ pub(crate) fn end(s: State, rest: &[u8], bits: u64) -> State
     ensures { result ≡ folded s (rest.now ++ padding (zeros (length rest.now)) bits) }
 {
     let tail = pad(rest, bits);
-    let first = compress(s, &tail[0..64]);
+    let (blocks, _) = tail.as_chunks::<64>();
+    let first = compress(s, &blocks[0]);
     if rest.len() < ROOM {
         first
     } else {
-        compress(first, &tail[64..128])
+        compress(first, &blocks[1])
     }
 }
