@@ -65,6 +65,7 @@ fn add(s: State, v: State) -> State
 }
 
 // The first 48 rounds, and with each the word of the schedule that stands 16 ahead.
+// An index and no iterator over w, since each turn reads the word at t and writes the one at t + 16.
 fn early_rounds(start: State, w: &mut [u32; 64]) -> State
     ensures schedule { w.new ≡ scheduled 48 (take 16 w.old) }
     ensures state { result ≡ rounds 48 start (scheduled 48 (take 16 w.old)) }
@@ -82,8 +83,8 @@ fn late_rounds(early: State, w: &[u32; 64]) -> State
     ensures { (start : State) → early ≡ rounds 48 start w.now → result ≡ rounds 64 start w.now }
 {
     let mut s = early;
-    for t in 48..64 {
-        s = step(s, K[t], w[t]);
+    for (k, word) in K[48..].iter().zip(&w[48..]) {
+        s = step(s, *k, *word);
     }
     s
 }
