@@ -1,30 +1,19 @@
 // A digest's 32 bytes, and the text that is printed of it.
 ghost use Rattle.std.specs.Prelude.{◌≡◌, Some};
-ghost use Rattle.sha256.specs.Text.{bytes32, digest_bytes, digest_text};
+ghost use Rattle.sha256.specs.Text.{digest_bytes, digest_text};
 
-use crate::buffer::put;
 use crate::value::Digest;
 use std::fmt;
 
-// The bytes of four words in turn.
-fn lay_out(a: u64, b: u64, c: u64, d: u64) -> [u8; 32]
-    ensures { result ≡ bytes32 a b c d }
-{
-    let mut bytes = [0; 32];
-    put(&mut bytes, 0, &a.to_be_bytes());
-    put(&mut bytes, 8, &b.to_be_bytes());
-    put(&mut bytes, 16, &c.to_be_bytes());
-    put(&mut bytes, 24, &d.to_be_bytes());
-    bytes
-}
-
 impl Digest {
     // The 32 bytes, each word's most significant first.
+    #[tactic(auto, using(crate::proofs::Digests::four_words))]
     pub fn bytes(self) -> [u8; 32]
         ensures { result ≡ digest_bytes self }
     {
-        let [a, b, c, d] = self.words;
-        lay_out(a, b, c, d)
+        let mut bytes = [0; 32];
+        bytes.copy_from_slice(self.words.map(u64::to_be_bytes).as_flattened());
+        bytes
     }
 }
 

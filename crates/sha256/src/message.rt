@@ -42,7 +42,7 @@ pub(crate) fn hash(pages: &[u8]) -> State
 fn pair(high: u32, low: u32) -> u64
     ensures { result ≡ high * 2 ^ 32 + low }
 {
-    ((high as u64) << 32) + low as u64
+    (u64::from(high) << 32) | u64::from(low)
 }
 
 impl State {

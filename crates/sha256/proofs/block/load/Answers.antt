@@ -1,5 +1,4 @@
-use Rattle.std.proofs.Common.{◌≡◌, ℕ, ◌+◌, ◌/◌, ◌<◌, List, [], length, get_or, take, set, sym, ap, ◌∙◌, arith, w32}
-use Rattle.std.specs.Int.{from_be_bytes}
+use Rattle.std.proofs.Common.{◌≡◌, ℕ, ◌+◌, ◌/◌, ◌<◌, length, take, set, sym, ap, ◌∙◌, arith}
 use Rattle.std.proofs.lemmas.List.{length-set}
 use Rattle.sha256.specs.Schedule.{word}
 use Rattle.sha256.proofs.Schedule.{words_none, words_set, chunk_word}
