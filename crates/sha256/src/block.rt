@@ -5,7 +5,7 @@ ghost use Rattle.sha256.specs.Schedule.{words, next, scheduled};
 ghost use Rattle.sha256.specs.Compression.{round, rounds, added, compressed};
 
 use crate::constants::K;
-use crate::functions::{choose, lower_sigma0, lower_sigma1, majority, upper_sigma0, upper_sigma1};
+use crate::functions::{choose, lower_sigma, majority, upper_sigma};
 use crate::state::State;
 
 fn load(w: &mut [u32; 64], block: &[u8; 64])
@@ -21,9 +21,9 @@ fn ahead(w: &mut [u32; 64], t: usize)
     requires { t < 48 }
     ensures { w.new ≡ slice_set w.old (t + 16) (next w.old t) }
 {
-    let recent = lower_sigma1(w[t + 14]).wrapping_add(w[t + 9]);
+    let recent = lower_sigma::<17, 19, 10>(w[t + 14]).wrapping_add(w[t + 9]);
     w[t + 16] = recent
-        .wrapping_add(lower_sigma0(w[t + 1]))
+        .wrapping_add(lower_sigma::<7, 18, 3>(w[t + 1]))
         .wrapping_add(w[t]);
 }
 
@@ -32,11 +32,11 @@ fn step(s: State, k: u32, w: u32) -> State
 {
     let t1 = s
         .h
-        .wrapping_add(upper_sigma1(s.e))
+        .wrapping_add(upper_sigma::<6, 11, 25>(s.e))
         .wrapping_add(choose(s.e, s.f, s.g))
         .wrapping_add(k)
         .wrapping_add(w);
-    let t2 = upper_sigma0(s.a).wrapping_add(majority(s.a, s.b, s.c));
+    let t2 = upper_sigma::<2, 13, 22>(s.a).wrapping_add(majority(s.a, s.b, s.c));
     State {
         a: t1.wrapping_add(t2),
         b: s.a,
