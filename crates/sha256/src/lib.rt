@@ -6,7 +6,6 @@ ghost use Rattle.sha256.specs.Examples.{Examples};
 ghost use Rattle.sha256.specs.Text.{digest_of};
 
 mod block;
-mod buffer;
 mod bytes;
 mod constants;
 mod functions;

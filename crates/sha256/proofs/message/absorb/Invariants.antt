@@ -1,6 +1,6 @@
-use Rattle.std.proofs.Common.{◌≡◌}
-use Rattle.sha256.specs.Hash.{hashed}
+use Rattle.std.proofs.Common.{◌≡◌, fold, take}
+use Rattle.sha256.specs.Compression.{compressed}
 use Rattle.sha256.proofs.message.absorb.Given as goal
 
-abbrev pub invariant-loop-i : goal.invariant-loop-i
-invariant-loop-i l = l.s ≡ hashed l.i l.initial.s l.pages
+abbrev pub invariant-loop-block : goal.invariant-loop-block
+invariant-loop-block l = l.s ≡ fold compressed l.initial.s (take l.block-index l.blocks)
