@@ -1,4 +1,3 @@
-mod Blocks
 mod Masks
 mod Differences
 mod Stamps
