@@ -1,4 +1,4 @@
 mod Masks
 mod Differences
-mod Stamps
+pub mod Stamps
 mod Examples

@@ -28,6 +28,7 @@ impl PreparedKey {
     }
 
     // The HMAC of a message.
+    #[tactic(auto, using(crate::proofs::Stamps::stamped))]
     pub fn stamp(&self, message: &[u8]) -> Digest
         ensures { result ≡ hmac_of_block self.now.block message.now }
     {
