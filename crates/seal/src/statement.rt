@@ -20,6 +20,7 @@ pub struct Statement {
 
 impl Statement {
     // The bytes that are sealed: the four parts, one after the other.
+    #[tactic(auto, unfolding(crate::specs::Statements::laid_out, sha256::specs::Text::bytes32))]
     pub fn bytes(self) -> [u8; STATEMENT_BYTES]
         ensures { result ≡ statement_bytes self }
     {

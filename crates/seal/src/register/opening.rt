@@ -47,10 +47,13 @@ impl Register {
     }
 
     // The same where a refused opening still leaves a register, of no house.
+    #[tactic(auto, using(crate::proofs::Shares::no_seals))]
     pub fn new(houses: u8, table: Table) -> Register
         ensures { Begun result (after (register_asked houses (vec_capacity table.entries)) (λ _. houses) 0) (after (register_asked houses (vec_capacity table.entries)) (λ _. vec_capacity table.entries / houses) 0) table }
     {
-        let supply = supply_of(houses, table.entries.capacity()).unwrap_or(Supply::share(0, 0));
-        Register::begun(supply, table)
+        match supply_of(houses, table.entries.capacity()) {
+            Ok(supply) => Register::begun(supply, table),
+            Err(_) => Register::begun(Supply::share(0, 0), table),
+        }
     }
 }

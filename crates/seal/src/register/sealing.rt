@@ -1,8 +1,8 @@
 // Signing by the next row, and checking a row.
 ghost use Rattle.std.specs.Prelude.{◌≡◌, ◌<◌, [], ◌∷◌, ◌++◌};
 ghost use Rattle.seal.specs.Houses.{left_of, spent};
-ghost use Rattle.seal.specs.Registers.{entries_of, used, register, row_checks};
-ghost use Rattle.seal.specs.Rows.{entry, row_bytes};
+ghost use Rattle.seal.specs.Registers.{entries_of, used, row_at, register, row_checks};
+ghost use Rattle.seal.specs.Rows.{entry, holds, row_bytes};
 ghost use Rattle.seal.specs.RegisterLaws.{register_meant};
 
 use crate::entry::Entry;
@@ -19,6 +19,14 @@ impl Register {
         (self.used() as u16).to_be_bytes()
     }
 
+    // Whether the house signed the statement in the row.
+    #[tactic(auto, using(crate::specs::RowsLemmas::row_is), unfolding(crate::specs::Rows::same_statement))]
+    fn holds(&self, i: usize, house: u8, statement: Statement) -> bool
+        ensures { result ≡ holds (row_at self.now i) house statement }
+    {
+        self.row(i) == Some(Entry { house, statement })
+    }
+
     // Whether the seal is the number of a row that holds the house and the statement.
     fn row_checks(&self, house: u8, statement: Statement, seal: &[u8]) -> bool
         ensures { result ≡ row_checks self.now house statement seal.now }
@@ -26,7 +34,7 @@ impl Register {
         match seal {
             [high, low] => {
                 let number = u16::from_be_bytes([*high, *low]);
-                self.row(usize::from(number)) == Some(Entry { house, statement })
+                self.holds(usize::from(number), house, statement)
             }
             _ => false,
         }

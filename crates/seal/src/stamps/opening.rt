@@ -61,6 +61,7 @@ impl Stamps {
     }
 
     // The same where a refused opening still leaves stamps, of no house.
+    #[tactic(auto, unfolding(crate::specs::Houses::shares))]
     pub fn new(houses: u8, keys: &[u8]) -> Stamps
         ensures { Keyed result (after (stamps_asked houses (length keys.now)) (λ _. houses) 0) keys.now }
     {

@@ -15,9 +15,8 @@ impl Stamps {
         requires { house < self.now.supply.houses }
         ensures { result ≡ stamp_of self.now.keys house statement }
     {
-        self.keys[usize::from(house)]
-            .stamp(&statement.bytes())
-            .bytes()
+        let key = &self.keys[usize::from(house)];
+        key.stamp(&statement.bytes()).bytes()
     }
 
     // Whether the seal is that stamp.
