@@ -1,5 +1,4 @@
-mod Blocks
 mod Masks
 mod Differences
-mod Stamps
+pub mod Stamps
 mod Examples

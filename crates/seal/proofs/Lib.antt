@@ -1,4 +1,4 @@
 mod Keys
-mod Shares
+pub mod Shares
 pub mod Signings
 pub mod Statements

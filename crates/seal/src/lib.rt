@@ -3,18 +3,17 @@
 
 ghost use Rattle.seal.specs.Signings.{SealsAreSigned};
 
+mod entry;
 mod houses;
 mod kind;
-mod memory;
 mod register;
-mod row;
 mod stamps;
 mod statement;
 mod table;
 
+pub use entry::Entry;
 pub use kind::Seal;
 pub use register::Register;
-pub use row::Row;
 pub use stamps::Stamps;
 pub use statement::{STATEMENT_BYTES, Statement};
 pub use table::Table;

@@ -6,5 +6,5 @@ use Rattle.seal.proofs.stamps.Stamps.stamp.Goals as goal
 
 pub returns : goal.returns
 returns c =
-    let block = block_at c.args.self.now.keys c.args.house c.index-self-house.result (omega arith) in
+    let block = block_at c.args.self.now.keys c.from.result c.index-self-from.result c.from.ensures (omega arith) in
     c.bytes-2.ensures ∙ ap digest_bytes (c.stamp.ensures ∙ ap₂ hmac_of_block block c.bytes.ensures)
