@@ -33,6 +33,7 @@ fn resume(start: State, before: u64, rest: &[u8]) -> State
 }
 
 // Hashes a whole message.
+#[tactic(auto, using(crate::proofs::Hash::sha256_resumed))]
 pub(crate) fn hash(pages: &[u8]) -> State
     ensures { result ≡ sha256 pages.now }
 {
