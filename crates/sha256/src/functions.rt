@@ -10,6 +10,7 @@ pub(crate) fn choose(x: u32, y: u32, z: u32) -> u32
 }
 
 // Two operations fewer than the standard's form, and equal to it.
+#[tactic(auto, using(crate::proofs::Majority::maj_short))]
 pub(crate) fn majority(x: u32, y: u32, z: u32) -> u32
     ensures { result ≡ maj x y z }
 {

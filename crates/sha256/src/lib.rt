@@ -26,6 +26,7 @@ pub fn digest(pages: &[u8]) -> Digest
 }
 
 // The definitions give the published digests of the empty message, of "abc" and of a message of two blocks.
+#[tactic(auto, using(crate::proofs::Examples::examples))]
 pub fn published_examples()
     ensures { Examples }
 {}

@@ -13,11 +13,7 @@ use crate::value::Digest;
 fn absorb(start: State, blocks: &[[u8; 64]]) -> State
     ensures { result ≡ fold compressed start blocks.now }
 {
-    let mut s = start;
-    for block in blocks {
-        s = compress(s, block);
-    }
-    s
+    blocks.iter().fold(start, State::after)
 }
 
 // Hashes the rest of a message of which `before` blocks are hashed already, into `start`.
@@ -33,6 +29,7 @@ fn resume(start: State, before: u64, rest: &[u8]) -> State
 }
 
 // Hashes a whole message.
+#[tactic(auto, using(crate::proofs::Hash::sha256_resumed))]
 pub(crate) fn hash(pages: &[u8]) -> State
     ensures { result ≡ sha256 pages.now }
 {
