@@ -4,7 +4,7 @@ ghost use Rattle.seal.specs.Meanings.{Signing, sign_answer};
 ghost use Rattle.exchange.specs.Machine.{placed, member, statement_of, announce_answer, announce_station, note_answer, note_station};
 
 use crate::opening::Exchange;
-use crate::rows::WINDOW;
+use crate::rows::{WINDOW, free_of_other};
 use crate::station::Station;
 use edition::{LAST_NUMBER, Number, admit};
 use refusal::{Refusal, Refused};
@@ -63,15 +63,15 @@ impl<R: Rule, S: Seal> Exchange<R, S> {
             return Err(Refused::new(Refusal::NoSuchHouse));
         }
         let row = &mut station.rows[house as usize];
-        row.within(number)?;
+        let place = row.place_of(number)?;
         if !is_member(self.rule.named(house, number), own) {
             return Err(Refused::new(Refusal::NotNamed));
         }
-        let slot = row.slot(number);
-        if !slot.free_of_other(digest) {
+        let slot = &mut row.slots[place];
+        if !free_of_other(*slot, digest) {
             return Err(Refused::new(Refusal::OtherDigestNoted));
         }
-        if !slot.is_empty() {
+        if slot.is_some() {
             return Err(Refused::new(Refusal::AlreadyNoted));
         }
         let mark = self.rule.mark();
@@ -82,7 +82,7 @@ impl<R: Rule, S: Seal> Exchange<R, S> {
             digest,
         };
         self.seal.sign(own, statement, memory)?;
-        row.fill(number, digest);
+        *slot = Some(digest);
         Ok(())
     }
 

@@ -2,7 +2,7 @@
 ghost use Rattle.std.specs.Prelude.{◌≡◌};
 ghost use Rattle.exchange.specs.Stations.{open_station};
 
-use crate::station::{Row, Slot, Station};
+use crate::station::{Row, Station};
 use edition::Number;
 use refusal::{Refusal, Refused};
 
@@ -19,7 +19,7 @@ impl Station {
         }
         let row = Row {
             last: 0,
-            slots: [Slot::Empty; 4],
+            slots: [None; 4],
         };
         Ok(Station {
             house,

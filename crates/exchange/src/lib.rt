@@ -16,4 +16,4 @@ pub use filing::Filing;
 pub use gathering::{Closed, Gathering};
 pub use opening::Exchange;
 pub use reading::{Head, Receipt, part_head, read_receipt};
-pub use station::{Row, Slot, Station};
+pub use station::{Row, Station};
