@@ -14,9 +14,7 @@ impl Station {
     pub fn open(house: u8) -> Result<Station, Refused>
         ensures { result ≡ open_station house }
     {
-        if house >= ROWS {
-            return Err(Refused::new(Refusal::StationHouse));
-        }
+        Refusal::StationHouse.unless(house < ROWS)?;
         let row = Row {
             last: 0,
             slots: [None; 4],

@@ -1,8 +1,8 @@
 // One row of a station, and the slots of the numbers after its last.
-ghost use Rattle.std.specs.Prelude.{◌≡◌, ◌+◌, ◌-◌, Ok, nat_le, nat_lt};
+ghost use Rattle.std.specs.Prelude.{◌≡◌, ◌+◌, ◌-◌, ◌==◌, Ok, nat_le, nat_lt};
 ghost use Rattle.refusal.specs.Questions.{ask};
 ghost use Rattle.refusal.specs.declared.Refusal.TheVariants.{NumberPast, NumberAhead};
-ghost use Rattle.exchange.specs.Stations.{same_digest, free_of_other, filed_row};
+ghost use Rattle.exchange.specs.Stations.{free_of_other, filed_row};
 
 use crate::station::Row;
 use edition::Number;
@@ -12,19 +12,11 @@ use sha256::Digest;
 // How far a house may be ahead of what is filed of it.
 pub(crate) const WINDOW: Number = 4;
 
-pub(crate) fn same(x: Digest, y: Digest) -> bool
-    ensures { result ≡ same_digest x y }
-{
-    let [a, b, c, d] = x.words;
-    let [e, f, g, h] = y.words;
-    a == e && b == f && c == g && d == h
-}
-
 // Whether a slot is empty, or holds this very digest.
 pub(crate) fn free_of_other(slot: Option<Digest>, digest: Digest) -> bool
     ensures { result ≡ free_of_other slot digest }
 {
-    slot.is_none_or(|noted| same(noted, digest))
+    slot.is_none_or(|noted| noted == digest)
 }
 
 impl Row {
@@ -32,13 +24,17 @@ impl Row {
     pub(crate) fn place_of(&self, number: Number) -> Result<usize, Refusal>
         ensures { result ≡ ask (nat_lt self.now.last number) NumberPast (ask (nat_le number (self.now.last + 4)) NumberAhead (Ok (number - self.now.last - 1))) }
     {
-        if number <= self.last {
-            return Err(Refusal::NumberPast);
-        }
-        if number - self.last > WINDOW {
-            return Err(Refusal::NumberAhead);
-        }
+        Refusal::NumberPast.unless(number > self.last)?;
+        Refusal::NumberAhead.unless(number - self.last <= WINDOW)?;
         Ok(usize::from(number - self.last - 1))
+    }
+
+    // Refused unless the number is the one after the last that is filed.
+    pub(crate) fn is_next(&self, number: Number) -> Result<(), Refusal>
+        ensures { result ≡ ask (nat_lt self.now.last number) NumberPast (ask (number == self.now.last + 1) NumberAhead (Ok tt)) }
+    {
+        Refusal::NumberPast.unless(number > self.last)?;
+        Refusal::NumberAhead.unless(number - self.last == 1)
     }
 
     // The next number is filed: the slots move down by one, and the fourth is empty.

@@ -1,7 +1,8 @@
 // The closed list of refusals, each with its number and its text, and a refusal with its place.
 #![tactic(auto)]
 
-ghost use Rattle.std.specs.Prelude.{◌≡◌, Some, Decides, nat_eq};
+ghost use Rattle.std.specs.Prelude.{◌≡◌, Some, Ok, Decides, nat_eq};
+ghost use Rattle.refusal.specs.Questions.{ask};
 ghost use Rattle.std.specs.Ordering.{on};
 ghost use Rattle.refusal.specs.Numbers.{number_of};
 ghost use Rattle.refusal.specs.Places.{refused_text};
@@ -69,6 +70,13 @@ impl Refusal {
         ensures { result ≡ number_of self }
     {
         self as u8
+    }
+
+    // Refuses, unless a question is answered by yes.
+    pub fn unless(self, yes: bool) -> Result<(), Refusal>
+        ensures { result ≡ ask yes self (Ok tt) }
+    {
+        if yes { Ok(()) } else { Err(self) }
     }
 
     // What is wrong, as a sentence.
