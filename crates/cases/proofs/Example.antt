@@ -4,7 +4,7 @@ use lib.Count.{ones}
 use lib.Seq.{paste}
 use Rattle.std.proofs.lemmas.Bool.{le-leb}
 use Rattle.bits.specs.Bits.{has}
-use Rattle.refusal.specs.Questions.{whole}
+use Rattle.refusal.specs.Questions.{whole, at_receipt}
 use Rattle.refusal.specs.declared.Refused.{Refused}
 use Rattle.refusal.specs.declared.Refusal.TheVariants.{PagesTooLong, SealFails}
 use Rattle.sha256.specs.Text.{digest_of, bytes32}
@@ -21,7 +21,7 @@ use Rattle.exchange.specs.declared.gathering.Closed.{Closed}
 use Rattle.exchange.specs.declared.filing.Filing.{Filing}
 use Rattle.exchange.specs.Stations.{fresh_station}
 use Rattle.exchange.specs.Layout.{head_bytes, bundle_statement}
-use Rattle.exchange.specs.Machine.{statement_of, go_on, at_receipt, receipt_answer, with_house, announce_answer, add_answer, walk, file_answer, file_station}
+use Rattle.exchange.specs.Machine.{statement_of, go_on, receipt_answer, with_house, announce_answer, add_answer, walk, file_answer, file_station}
 use Rattle.exchange.specs.Runs.{Event, announced, noted, started, added, closed, issued, filed, World, open_with, closed_with, gone, opened, at_station, at_gathering, at_seal, Step, Run, Some, Each}
 use Rattle.exchange.specs.Law.{Hands, Fair, Conditions}
 use Rattle.exchange.proofs.Questions.{yes_to}

@@ -11,7 +11,8 @@ use Rattle.seal.specs.declared.statement.Statement.{Statement}
 use Rattle.seal.specs.Meanings.{Meaning}
 use Rattle.exchange.specs.Layout.{receipt_at, receipt_house, receipt_seal, bundle_statement}
 use Rattle.exchange.proofs.Questions.{asked, yes_to}
-use Rattle.exchange.specs.Machine.{member, go_on, at_receipt, receipt_answer, walk}
+use Rattle.refusal.specs.Questions.{at_receipt}
+use Rattle.exchange.specs.Machine.{member, go_on, receipt_answer, walk}
 
 -- the receipts before a place lie before the receipts' end
 pub place_within : (size i n : ℕ) → i < n → receipt_at size (i + 1) ≤ receipt_at size n

@@ -2,7 +2,7 @@
 use Rattle.std.specs.Prelude.{ℕ, zero, suc, ◌+◌, ◌^◌, Bool, not, List, length, Ok, Err, Result, ◌==◌, bit_or, count_ones, nat_le, nat_lt}
 use Rattle.std.proofs.Math.Seq.{paste}
 use Rattle.bits.specs.Bits.{has}
-use Rattle.refusal.specs.Questions.{ask, after, whole}
+use Rattle.refusal.specs.Questions.{ask, after, whole, at_receipt}
 use Rattle.refusal.specs.declared.Refused.{Refused}
 use Rattle.refusal.specs.declared.Refusal.{Refusal}
 use Rattle.refusal.specs.declared.Refusal.TheVariants.{StationHouse, NumbersUsedUp, WindowFull, PagesTooLong, NoSuchHouse, NumberPast, NumberAhead, NotNamed, AlreadyNoted, OtherDigestNoted, MemoryTooSmall, ReceiptRepeated, SealLength, SealFails, NotAccepted, BundleTooShort, OtherRule, OtherPages, BundleLength}
@@ -124,10 +124,6 @@ abbrev pub issue_memory : {S : Type 0} → Ruling → Meaning S → Closed → L
 issue_memory r kind c m =
     after (issue_answer kind c (length m))
     (λ _. paste m 0 (head_bytes (gathering_statement r c.whole) (count_ones c.whole.gathered)) head_length) m
-
--- a refusal that fell on the receipt at a place, places counted from 1
-abbrev pub at_receipt : Refusal → ℕ → Refused
-at_receipt refusal place = record { refusal = refusal; place = place }
 
 -- one receipt at a place of a bundle with statement x, after those of the houses in `met`: the set with its house
 abbrev pub receipt_answer : {S : Type 0} → Ruling → Meaning S → S → Statement → ℕ → ℕ → List ℕ → ℕ → Result ℕ Refused
