@@ -9,11 +9,11 @@ use seal::{STATEMENT_BYTES, Statement};
 pub const HEAD_BYTES: usize = STATEMENT_BYTES + 1;
 
 // Where the receipt at a place stands, places counted from 0.
-pub(crate) fn receipt_at(size: usize, place: usize) -> usize
-    requires { (size ≤ 2048) × (place ≤ 256) }
+pub(crate) fn receipt_at(size: usize, place: u16) -> usize
+    requires { size ≤ 2048 }
     ensures { result ≡ receipt_at size place }
 {
-    HEAD_BYTES + place * (1 + size)
+    HEAD_BYTES + usize::from(place) * (1 + size)
 }
 
 // Writes a house and its seal from a place on.
