@@ -36,20 +36,15 @@ fn mark_of(number: u16) -> Option<Mark>
 }
 
 // How many lines there are, one without its end included.
+#[tactic(auto, unfolding(crate::specs::Openings::line_count, crate::specs::Openings::end_count))]
 fn lines(bytes: &[u8]) -> usize
     requires { length bytes.now ≤ 65536 }
     ensures { result ≡ line_count bytes.now }
 {
-    let mut ends = 0;
-    for byte in bytes {
-        if *byte == LINE_END {
-            ends += 1;
-        }
-    }
-    if bytes.is_empty() || bytes[bytes.len() - 1] == LINE_END {
-        ends
-    } else {
-        ends + 1
+    let ends = bytes.iter().filter(|byte| **byte == LINE_END).count();
+    match bytes.last() {
+        Some(byte) if *byte != LINE_END => ends + 1,
+        _ => ends,
     }
 }
 
