@@ -1,8 +1,9 @@
 // What an event line says.
 ghost use Rattle.std.specs.Prelude.{◌≡◌, Some, None, MatchOption};
+ghost use Rattle.std.specs.Result.{result_ok};
 ghost use Rattle.rehearsal.specs.Events.{call_of_word, fitting, meant, Fields, fields_of, event_of};
 
-use crate::fields::{SPACE, cut, is_text, is_word, number};
+use crate::fields::{SPACE, cut, is_text, number};
 use edition::Number;
 
 #[derive(Clone, Copy)]
@@ -23,17 +24,22 @@ pub(crate) struct Event<'a> {
     pub(crate) text: &'a [u8],
 }
 
-fn call_of(field: &[u8]) -> Option<Call>
-    ensures { result ≡ call_of_word field.now }
-{
-    if is_word(field, b"announce") {
-        Some(Call::Announce)
-    } else if is_word(field, b"note") {
-        Some(Call::Note)
-    } else if is_word(field, b"file") {
-        Some(Call::File)
-    } else {
-        None
+// A word that is no call's.
+#[derive(Clone, Copy)]
+pub(crate) struct UnknownCall;
+
+impl<'a> TryFrom<&'a [u8]> for Call {
+    type Error = UnknownCall;
+
+    ghost try_from_gives = { λ word r. result_ok r ≡ call_of_word word.now };
+
+    fn try_from(word: &'a [u8]) -> Result<Call, UnknownCall> {
+        match word {
+            b"announce" => Ok(Call::Announce),
+            b"note" => Ok(Call::Note),
+            b"file" => Ok(Call::File),
+            _ => Err(UnknownCall),
+        }
     }
 }
 
@@ -74,12 +80,13 @@ fn part(line: &[u8]) -> Option<Parts<'_>>
 }
 
 // The event of a line, given without its end; nothing where the line has not the right form.
+#[tactic(auto, unfolding(crate::specs::Events::event_of))]
 pub(crate) fn parse(line: &[u8]) -> Option<Event<'_>>
     ensures { MatchOption result (event_of line.now ≡ None) (λ e. event_of line.now ≡ Some (meant e)) }
 {
     let parts = part(line)?;
     let text = parts.rest;
-    let call = call_of(parts.first)?;
+    let call = Call::try_from(parts.first).ok()?;
     let at = number(parts.second)?;
     let house = number(parts.third)?;
     let number = number(parts.fourth)?;

@@ -1,6 +1,5 @@
 // Lines, and the fields of a line.
 ghost use Rattle.std.specs.Prelude.{◌≡◌, ◌<◌, ◌==◌, min, length, position, IfSome, Some, None, MatchOption};
-ghost use Rattle.std.specs.Str.{bytes_eq};
 ghost use Rattle.rehearsal.specs.Fields.{cut_at, read_on, zero_in_front, number_of_field, all_printable, text_field};
 
 pub(crate) const LINE_END: u8 = b'\n';
@@ -35,10 +34,10 @@ fn digits(field: &[u8]) -> Option<u16>
 {
     let mut value = 0u32;
     for byte in field {
-        if *byte < b'0' || *byte > b'9' {
+        if !byte.is_ascii_digit() {
             return None;
         }
-        value = value * 10 + (*byte - b'0') as u32;
+        value = value * 10 + u32::from(*byte - b'0');
         if value > MOST_NUMBER {
             return None;
         }
@@ -81,12 +80,5 @@ pub(crate) fn is_text(field: &[u8]) -> bool
 pub(crate) fn capped(number: u16) -> u8
     ensures { result ≡ min number 255 }
 {
-    number.min(255) as u8
-}
-
-// Whether a field is a word.
-pub(crate) fn is_word(field: &[u8], word: &[u8]) -> bool
-    ensures { result ≡ bytes_eq field.now word.now }
-{
-    field == word
+    u8::try_from(number).unwrap_or(u8::MAX)
 }
