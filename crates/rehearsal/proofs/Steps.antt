@@ -41,9 +41,8 @@ pub read_no : (v : ℕ) (xs : List ℕ) (i : ℕ) → i < length xs → passes v
 read_no v xs i h e =
     read_step v xs i h ∙ ap (λ (t : Bool). cond t (read_on (v * 10 + (get_or xs i 0 - 48)) (drop (i + 1) xs)) None) e
 
-pub report_step : (t t' s u : List ℕ) (ls : List Line) (i : ℕ) (d : Line) → i < length ls → t' ≡ t ++ s → s ≡ u → u ≡ line_text (get_or ls i d) ++ codes "\n" → t ++ lines_text (drop i ls) ≡ report_text ls → t' ++ lines_text (drop (i + 1) ls) ≡ report_text ls
-report_step t t' s u ls i d h e₁ e₂ e₃ inv =
-    let l : List ℕ = line_text (get_or ls i d) ++ codes "\n" in
-    ap (λ (z : List ℕ). z ++ lines_text (drop (i + 1) ls)) (e₁ ∙ ap (λ (z : List ℕ). t ++ z) (e₂ ∙ e₃))
-    ∙ (append_assoc t l (lines_text (drop (i + 1) ls))
+pub report_step : (t t' : List ℕ) (ls : List Line) (i : ℕ) (d : Line) → i < length ls → t' ≡ t ++ (line_text (get_or ls i d) ++ codes "\n") → t ++ lines_text (drop i ls) ≡ report_text ls → t' ++ lines_text (drop (i + 1) ls) ≡ report_text ls
+report_step t t' ls i d h e inv =
+    ap (λ (z : List ℕ). z ++ lines_text (drop (i + 1) ls)) e
+    ∙ (append_assoc t (line_text (get_or ls i d) ++ codes "\n") (lines_text (drop (i + 1) ls))
     ∙ (ap (λ (z : List ℕ). t ++ z) (sym (lines_step ls i d h)) ∙ inv))
