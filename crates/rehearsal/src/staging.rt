@@ -2,7 +2,7 @@
 ghost use Rattle.std.specs.Prelude.{◌≡◌, ◌<◌, ◌≤◌, [], length, IfOk, Ok, Err, MatchResult};
 ghost use Rattle.std.specs.Option.{option_map};
 ghost use Rattle.seal.specs.Registers.{row_at};
-ghost use Rattle.seal.specs.Rows.{entry_of};
+ghost use Rattle.seal.specs.Rows.{entry_of, row_bytes};
 ghost use Rattle.exchange.specs.Stations.{fresh_station};
 ghost use Rattle.rehearsal.specs.Bundles.{row_step, rows_from, bundle_of};
 ghost use Rattle.rehearsal.specs.Calls.{station_place, announce_outcome, announce_stations, note_outcome, note_stations, NoteLeft, file_outcome, file_stations, Gave, stations_after, Left, shown_event, first_event, after_first};
@@ -39,6 +39,14 @@ fn station(house: u8) -> Station
     ensures { result ≡ fresh_station house }
 {
     Station::open(house).unwrap()
+}
+
+// The seal that names a row: its number.
+fn seal_of(row: usize) -> [u8; 2]
+    requires { row < 65536 }
+    ensures { result ≡ row_bytes row }
+{
+    (row as u16).to_be_bytes()
 }
 
 // A fresh station for each house, at the house's place.
@@ -125,8 +133,7 @@ impl<R: Rule + Drop> Stage<R> {
     {
         match self.exchange.seal().row(i) {
             Some((house, signed)) if signed == statement => {
-                let seal = (i as u16).to_be_bytes();
-                self.exchange.add(gathering, house, &seal, memory)
+                self.exchange.add(gathering, house, &seal_of(i), memory)
             }
             _ => Ok(()),
         }
