@@ -1,6 +1,5 @@
 pub mod Gathers
 pub mod Outcomes
-pub mod Parses
 pub mod Steps
 pub mod Bundled
 pub mod Traces

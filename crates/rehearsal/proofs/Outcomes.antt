@@ -1,6 +1,5 @@
 -- What the exchange's answers come to in a rehearsal.
-use Rattle.std.proofs.Common.{◌≡◌, ℕ, ◌<◌, ◌≤◌, min, Bool, true, false, cond, ◌⊎◌, List, take, set, replicate, IfOk, Some, None, Ok, Err, Option, Result, sym, refl, ap, ◌∙◌, inl, inr, arith, le-ltb, MatchOption, ltb, [], ◌∷◌, subst, ap₂, subst₂, ltb-true}
-use Rattle.std.specs.Option.{option_map}
+use Rattle.std.proofs.Common.{◌≡◌, ℕ, ◌<◌, ◌≤◌, min, ◌⊎◌, List, take, set, replicate, Ok, Err, Result, sym, ap, ◌∙◌, inl, inr, arith, le-ltb, ltb, [], ◌∷◌, subst, ap₂, subst₂, ltb-true}
 use Rattle.std.proofs.lemmas.Bool.Decides.{nat_tests, leb_tells}
 use Rattle.refusal.specs.Questions.{after, whole}
 use Rattle.refusal.specs.declared.Refusal.{Refusal}
@@ -15,31 +14,15 @@ use Rattle.seal.specs.Meanings.{Signing}
 use Rattle.seal.specs.Registers.{register}
 use Rattle.exchange.specs.declared.station.Station.{Station}
 use Rattle.exchange.specs.declared.filing.Filing.{Filing}
-use Rattle.exchange.specs.Machine.{go_on, announce_answer, announce_station, note_answer, note_station, file_answer, statement_of, note_questions, file_station}
+use Rattle.exchange.specs.Machine.{go_on, note_answer, file_answer, statement_of, note_questions, file_station}
 use Rattle.exchange.proofs.Questions.{asked, went_on}
-use Rattle.rehearsal.specs.declared.events.Event.{Event}
-use Rattle.rehearsal.specs.Events.{Meant, meant}
+use Rattle.rehearsal.specs.Events.{Meant}
 use Rattle.rehearsal.specs.Bundles.{bundle_of}
-use Rattle.rehearsal.specs.Calls.{station_place, station_at, told, announce_outcome, announce_stations, note_outcome, note_stations, file_outcome, NoteLeft, file_stations}
-use Rattle.rehearsal.specs.declared.report.Line.{Line}
-use Rattle.rehearsal.specs.Reports.{open_lines}
-
-pub announce_told : (r : Ruling) (ss : List Station) (e : Meant) (at : ℕ) (a : Result (ℕ × Digest) Refused) → Ok at ≡ station_place r.houses e.at → a ≡ announce_answer r (station_at ss at) e.text → told (λ x. x.0) a ≡ announce_outcome r ss e
-announce_told r ss e at a here is =
-    ap (told (λ x. x.0)) is ∙ ap (λ (p : Result ℕ Refusal). go_on p (λ at. told (λ x. x.0) (announce_answer r (station_at ss at) e.text))) here
-
-pub announce_stood : (r : Ruling) (ss : List Station) (e : Meant) (at : ℕ) (s : Station) → Ok at ≡ station_place r.houses e.at → s ≡ announce_station r (station_at ss at) e.text → set ss at s ≡ announce_stations r ss e
-announce_stood r ss e at s here is =
-    ap (λ (x : Station). set ss at x) is
-    ∙ ap (λ (p : Result ℕ Refusal). after p (λ at. set ss at (announce_station r (station_at ss at) e.text)) ss) here
+use Rattle.rehearsal.specs.Calls.{station_place, station_at, told, file_outcome, NoteLeft, file_stations}
 
 -- a number above 255 is no house, and no more is 255
 pub capped_cases : (h : ℕ) → (min h 255 ≡ h) ⊎ ((min h 255 ≡ 255) × (255 < h))
 capped_cases h = elim (leb_tells h 255) [ inl t ↦ inl (omega (arith, t.1)) | inr t ↦ inr (omega (arith, t.1), t.1) ]
-
-no_way_in : {A B : Type 0} (b : Bool) (e f : Refused) (next : A → Result B Refused) (new : B → Station) (s : Station) → after (go_on (cond b (Err e) (Err f)) next) new s ≡ s
-no_way_in true e f next new s = refl
-no_way_in false e f next new s = refl
 
 pub note_same : (r : Ruling) (q : Register) (s : Station) (h k : ℕ) (d : Digest) → r.houses ≤ 16 → note_answer r register q s (min h 255) k d 2 ≡ note_answer r register q s h k d 2
 note_same r q s h k d few =
@@ -47,29 +30,6 @@ note_same r q s h k d few =
       | inl e ↦ ap (λ (j : ℕ). note_answer r register q s j k d 2) e
       | inr e ↦ rw (e.0, le-ltb 255 r.houses (omega arith), le-ltb h r.houses (omega (arith, e.1)))
     ]
-
-pub note_same_station : (r : Ruling) (q : Register) (s : Station) (h k : ℕ) (d : Digest) → r.houses ≤ 16 → note_station r register q s (min h 255) k d 2 ≡ note_station r register q s h k d 2
-note_same_station r q s h k d few =
-    elim (capped_cases h) [
-      | inl e ↦ ap (λ (j : ℕ). note_station r register q s j k d 2) e
-      | inr e ↦ rw (e.0, le-ltb 255 r.houses (omega arith), le-ltb h r.houses (omega (arith, e.1))) (no_way_in _ _ _ _ _ s ∙ sym (no_way_in _ _ _ _ _ s))
-    ]
-
-pub note_told : (r : Ruling) (q : Register) (ss : List Station) (e : Meant) (at j : ℕ) (d : Digest) (a : Result (Unit {0}) Refused) → r.houses ≤ 16 → Ok at ≡ station_place r.houses e.at → j ≡ min e.house 255 → d ≡ digest_of e.text → a ≡ note_answer r register q (station_at ss at) j e.number d 2 → told (λ _. q.used) a ≡ note_outcome r q ss e
-note_told r q ss e at j d a few here house digest is =
-    ap (told (λ _. q.used)) (is
-    ∙ (ap (λ (x : ℕ). note_answer r register q (station_at ss at) x e.number d 2) house
-    ∙ (ap (λ (x : Digest). note_answer r register q (station_at ss at) (min e.house 255) e.number x 2) digest
-    ∙ note_same r q (station_at ss at) e.house e.number (digest_of e.text) few)))
-    ∙ ap (λ (p : Result ℕ Refusal). go_on p (λ at. told (λ _. q.used) (note_answer r register q (station_at ss at) e.house e.number (digest_of e.text) 2))) here
-
-pub note_stood : (r : Ruling) (q : Register) (ss : List Station) (e : Meant) (at j : ℕ) (d : Digest) (s : Station) → r.houses ≤ 16 → Ok at ≡ station_place r.houses e.at → j ≡ min e.house 255 → d ≡ digest_of e.text → s ≡ note_station r register q (station_at ss at) j e.number d 2 → set ss at s ≡ note_stations r q ss e
-note_stood r q ss e at j d s few here house digest is =
-    ap (λ (x : Station). set ss at x) (is
-    ∙ (ap (λ (x : ℕ). note_station r register q (station_at ss at) x e.number d 2) house
-    ∙ (ap (λ (x : Digest). note_station r register q (station_at ss at) (min e.house 255) e.number x 2) digest
-    ∙ note_same_station r q (station_at ss at) e.house e.number (digest_of e.text) few)))
-    ∙ ap (λ (p : Result ℕ Refusal). after p (λ at. set ss at (note_station r register q (station_at ss at) e.house e.number (digest_of e.text) 2)) ss) here
 
 -- a taken note is for a house below n
 note_inside : (r : Ruling) (q : Register) (s : Station) (j k : ℕ) (d : Digest) (t : Unit {0}) → note_answer r register q s j k d 2 ≡ Ok t → j < r.houses
@@ -91,7 +51,7 @@ note_names r q s h k d (Ok t) own m m' q' few is signing =
 note_names r q s h k d (Err x) own m m' q' few is signing = signing
 
 -- the register after a note
-note_signed : (r : Ruling) (q : Register) (ss : List Station) (e : Meant) (at j : ℕ) (d : Digest) (a : Result (Unit {0}) Refused) (q' : Register) (m : List ℕ) → r.houses ≤ 16
+pub note_signed : (r : Ruling) (q : Register) (ss : List Station) (e : Meant) (at j : ℕ) (d : Digest) (a : Result (Unit {0}) Refused) (q' : Register) (m : List ℕ) → r.houses ≤ 16
     → Ok at ≡ station_place r.houses e.at → j ≡ min e.house 255 → d ≡ digest_of e.text → a ≡ note_answer r register q (station_at ss at) j e.number d 2
     → Signing register a (station_at ss at).house (statement_of r j e.number d) q (0 ∷ 0 ∷ []) q' m → NoteLeft r q ss e (station_place r.houses e.at) q'
 note_signed r q ss e at j d a q' m few here house digest is signing =
@@ -103,23 +63,6 @@ note_signed r q ss e at j d a q' m few here house digest is signing =
     subst (λ (p : Result ℕ Refusal). NoteLeft r q ss e p q') here
     (m, subst (λ (x : Result (Unit {0}) Refused). named x e.house own) (answer ∙ note_same r q s e.house e.number own few) signs)
 
--- what a note of the exchange comes to: its outcome, the stations and the register after it
-pub record Noted (r : Ruling) (q : Register) (ss : List Station) (e : Meant) (at : ℕ) (a : Result (Unit {0}) Refused) (s : Station) (q' : Register) : Type 0 where
-  pub answer : told (λ _. q.used) a ≡ note_outcome r q ss e
-  pub stations : set ss at s ≡ note_stations r q ss e
-  pub register : NoteLeft r q ss e (station_place r.houses e.at) q'
-
-pub note_gave : (r : Ruling) (q : Register) (ss : List Station) (e : Meant) (at j : ℕ) (d : Digest) (a : Result (Unit {0}) Refused) (s : Station) (q' : Register) (m : List ℕ)
-    → r.houses ≤ 16 → Ok at ≡ station_place r.houses e.at → j ≡ min e.house 255 → d ≡ digest_of e.text
-    → a ≡ note_answer r register q (station_at ss at) j e.number d 2 → s ≡ note_station r register q (station_at ss at) j e.number d 2
-    → Signing register a (station_at ss at).house (statement_of r j e.number d) q (0 ∷ 0 ∷ []) q' m → Noted r q ss e at a s q'
-note_gave r q ss e at j d a s q' m few here house digest answers stands signs =
-    record {
-      answer = note_told r q ss e at j d a few here house digest answers;
-      stations = note_stood r q ss e at j d s few here house digest stands;
-      register = note_signed r q ss e at j d a q' m few here house digest answers signs;
-    }
-
 pub opened_same : (n t : ℕ) → opened (min n 255) (min t 255) ≡ opened n t
 opened_same n t =
     elim (capped_cases n) [
@@ -129,20 +72,6 @@ opened_same n t =
       ]
       | inr e ↦ rw e.0 (let more = e.1 in grind (arith, nat_tests))
     ]
-
-pub refused_same : (n t a b : ℕ) (x y : Refusal) → a ≡ min n 255 → b ≡ min t 255 → opened a b ≡ Err x → opened n t ≡ Err y → x ≡ y
-refused_same n t a b x y p q is is' =
-    let e : opened a b ≡ opened n t = ap (λ (k : ℕ). opened k b) p ∙ (ap (λ (k : ℕ). opened (min n 255) k) q ∙ opened_same n t) in
-    cc
-
--- the event of a line, as the two ways of saying it have it
-pub as_mapped : (r : Option Event) (x : Option Meant) → MatchOption r (x ≡ None) (λ e. x ≡ Some (meant e)) → option_map meant r ≡ x
-as_mapped None x is = sym is
-as_mapped (Some e) x is = sym is
-
-pub open_made : {V Y : Type 0} (items : V → List Line) (r : Result V Y) (n t a b : ℕ) (x : Refusal) → a ≡ min n 255 → b ≡ min t 255 → opened a b ≡ Err x → IfOk r (λ v. items v ≡ open_lines x) → IfOk r (λ v. (e : Refusal) → opened n t ≡ Err e → items v ≡ open_lines e)
-open_made items (Ok v) n t a b x p q is lines = λ e is'. lines ∙ ap open_lines (refused_same n t a b x e p q is is')
-open_made items (Err y) n t a b x p q is lines = tt
 
 pub bundle_same : (r : Ruling) (q : Register) (h k : ℕ) (d : Digest) (m : List ℕ) → r.houses ≤ 16 → bundle_of r q (min h 255) k d m ≡ bundle_of r q h k d m
 bundle_same r q h k d m few =

@@ -1,5 +1,5 @@
 -- The lines of the report, one more with each event line.
-use Rattle.std.proofs.Common.{◌≡◌, ℕ, ◌+◌, ◌*◌, ◌≤◌, min, ◌&&◌, leb, List, [], ◌∷◌, ◌++◌, length, IfOk, Ok, Err, Option, Result, sym, refl, ap, ◌∙◌, subst, ap₂, subst₂, arith, length-append}
+use Rattle.std.proofs.Common.{◌≡◌, ℕ, ◌+◌, ◌*◌, ◌≤◌, min, ◌&&◌, leb, List, [], ◌∷◌, ◌++◌, length, IfOk, Some, Ok, Err, Option, Result, MatchResult, sym, refl, ap, ◌∙◌, subst, ap₂, subst₂, arith, length-append}
 use Rattle.std.proofs.lemmas.Bool.{and_parts, leb-true}
 use Rattle.refusal.specs.declared.Refusal.{Refusal}
 use Rattle.refusal.specs.declared.Refusal.TheVariants.{HouseCount, TooManyFaults}
@@ -14,7 +14,7 @@ use Rattle.rehearsal.specs.declared.report.Shown.{Shown}
 use Rattle.rehearsal.specs.Calls.{shown_event}
 use Rattle.rehearsal.specs.Events.{Meant}
 use Rattle.rehearsal.specs.Playing.{State, Played, Opens, PlaysOne, lines_of, Ran, Staged, ruling_of, LinesOpened}
-use Rattle.rehearsal.specs.Openings.{Begin}
+use Rattle.rehearsal.specs.Openings.{Begin, why_refused}
 use Rattle.rehearsal.specs.Reports.{open_lines}
 use Rattle.rehearsal.proofs.Agreeing.{agrees}
 use Rattle.rehearsal.proofs.Outcomes.{opened_same}
@@ -79,3 +79,16 @@ module _ (b : Begin) (houses faults : ℕ) (cut-houses : houses ≡ min b.houses
       subst (λ (o : Result (Unit {0}) Refusal). LinesOpened b o lines) (sym is.0 ∙ capped_opened b.houses b.faults houses faults cut-houses cut-faults)
       (subst (λ (m : Mark). Staged (ruling_of m b.houses b.faults) b.events lines) (sym mark)
       (subst₂ (λ (n t : ℕ). Staged (ruling_of m n t) b.events lines) (is.1 ∙ whole.0) (is.2 ∙ whole.1) ran))
+
+  -- the lines that a rule's opening leads to
+  pub rule_lines : {A : Type 0} (m : Mark) (houses_of faults_of : A → ℕ) (rule : Result A Refusal) (lines : List Line) → b.mark ≡ m
+      → elim rule as (λ _. Type 0) [ Ok x ↦ (opened houses faults ≡ Ok tt) × (houses_of x ≡ houses) × (faults_of x ≡ faults) | Err e ↦ opened houses faults ≡ Err e ]
+      → MatchResult rule (λ x. Staged (ruling_of m (houses_of x) (faults_of x)) b.events lines) (λ e. lines ≡ open_lines e)
+      → LinesOpened b (opened b.houses b.faults) lines
+  rule_lines m houses_of faults_of (Ok x) lines mark is ran = lines_staged m (houses_of x) (faults_of x) lines mark is ran
+  rule_lines m houses_of faults_of (Err e) lines mark is told = lines_refused e lines is told
+
+-- the one line of a refused opening
+pub refusal_told : (b : Begin) (a : Result (Unit {0}) Refusal) (lines : List Line) (e : Refusal) → LinesOpened b a lines → why_refused a ≡ Some e → lines ≡ open_lines e
+refusal_told b (Ok x) lines e is refused = let h = refused in cc
+refusal_told b (Err x) lines e is refused = is ∙ ap open_lines (let h = refused in cc)

@@ -14,7 +14,7 @@ use Rattle.exchange.specs.Machine.{go_on, statement_of, announce_answer, announc
 use Rattle.rehearsal.specs.declared.events.Call.{Call}
 use Rattle.rehearsal.specs.declared.events.Call.TheVariants.{Announce, Note, File}
 use Rattle.rehearsal.specs.declared.report.Shown.{Shown}
-use Rattle.rehearsal.specs.declared.report.Shown.TheVariants.{Announce as Announced, Note as Noted, File as Filed, Line as Bad}
+use Rattle.rehearsal.specs.declared.report.Shown.TheVariants.{Call as Called, Line as Bad}
 use Rattle.rehearsal.specs.Bundles.{bundle_of}
 use Rattle.rehearsal.specs.Events.{Meant, event_of}
 use Rattle.rehearsal.specs.Fields.{and_then, cut_at}
@@ -53,15 +53,10 @@ note_stations r s stations e =
     after (station_place r.houses e.at)
     (λ at. slice_set stations at (note_station r register s (station_at stations at) e.house e.number (digest_of e.text) 2)) stations
 
--- the word that a report has for an event, or for what is none
-abbrev pub shown_of : Call → Shown
-shown_of Announce = Announced
-shown_of Note = Noted
-shown_of File = Filed
-
+-- what a report names for an event, or for what is none
 abbrev pub shown_event : Option Meant → Shown
 shown_event None = Bad
-shown_event (Some e) = shown_of e.call
+shown_event (Some e) = Called e.call
 
 -- file tells the signers; the bundle's memory is of 85 bytes
 abbrev pub file_outcome : Ruling → Register → List Station → Meant → Result ℕ Refusal

@@ -3,8 +3,16 @@ use Rattle.std.specs.Prelude.{ℕ, Bool, true, cond, ◌&&◌, List, Some, None,
 use Rattle.std.specs.Str.{bytes_eq}
 use Rattle.rehearsal.specs.declared.events.Call.{Call}
 use Rattle.rehearsal.specs.declared.events.Call.TheVariants.{Announce, Note, File}
+use Rattle.rehearsal.specs.declared.events.Asked.{Asked}
+use Rattle.rehearsal.specs.declared.events.Asked.TheVariants.{Announce as AskedAnnounce, Note as AskedNote, File as AskedFile}
 use Rattle.rehearsal.specs.declared.events.Event.{Event}
 use Rattle.rehearsal.specs.Fields.{and_then, cut_at, number_of_field, text_field}
+
+-- the word of a call
+abbrev pub call_text : Call → List ℕ
+call_text Announce = codes "announce"
+call_text Note = codes "note"
+call_text File = codes "file"
 
 -- the call of a word
 abbrev pub call_of_word : List ℕ → Option Call
@@ -28,8 +36,28 @@ pub record Meant : Type 0 where
   pub number : ℕ
   pub text : List ℕ
 
+abbrev pub asked_call : Asked → Call
+asked_call AskedAnnounce = Announce
+asked_call (AskedNote named) = Note
+asked_call (AskedFile named) = File
+
+-- an announce stands for house 0 and number 0
+abbrev pub asked_house : Asked → ℕ
+asked_house AskedAnnounce = 0
+asked_house (AskedNote named) = named.house
+asked_house (AskedFile named) = named.house
+
+abbrev pub asked_number : Asked → ℕ
+asked_number AskedAnnounce = 0
+asked_number (AskedNote named) = named.number
+asked_number (AskedFile named) = named.number
+
+-- what is asked at a house's station with a text
+abbrev pub asking : Asked → ℕ → List ℕ → Meant
+asking a at text = record { call = asked_call a; at = at; house = asked_house a; number = asked_number a; text = text }
+
 abbrev pub meant : Event → Meant
-meant e = record { call = e.call; at = e.at; house = e.house; number = e.number; text = e.text.now }
+meant e = asking e.asked e.at e.text.now
 
 -- the five fields of a line
 pub record Fields : Type 0 where

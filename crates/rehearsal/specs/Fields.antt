@@ -1,6 +1,6 @@
 -- Lines, and the fields of a line.
-use Rattle.std.specs.Prelude.{ℕ, ◌+◌, ◌-◌, ◌*◌, Bool, true, cond, not, ◌&&◌, ◌||◌, List, [], ◌∷◌, length, take, drop, Some, None, Option, ◌==◌, nat_le, nat_lt, slice_index}
-use Rattle.std.specs.List.{prefix_len}
+use Rattle.std.specs.Prelude.{ℕ, ◌+◌, ◌-◌, ◌*◌, Bool, cond, not, ◌&&◌, ◌||◌, List, [], ◌∷◌, length, take, drop, Some, None, Option, ◌==◌, nat_le, nat_lt, slice_index}
+use Rattle.std.specs.List.{list_all, prefix_len}
 
 -- what there is of the one, handed to the other
 abbrev pub and_then : {A B : Type 0} → Option A → (A → Option B) → Option B
@@ -35,8 +35,7 @@ number_of_field field =
 
 -- is each byte printable and no space?
 abbrev pub all_printable : List ℕ → Bool
-all_printable [] = true
-all_printable (b ∷ bs) = (nat_le 33 b && nat_le b 126) && all_printable bs
+all_printable field = list_all (λ b. nat_le 33 b && nat_le b 126) field
 
 -- from 1 to 64 such bytes
 unfoldable pub text_field : List ℕ → Bool

@@ -3,14 +3,13 @@ use Rattle.std.specs.Prelude.{ℕ, List, [], ◌∷◌, ◌++◌, Ok, Err, codes
 use Rattle.refusal.specs.Numbers.{number_of}
 use Rattle.refusal.specs.declared.Refusal.{Refusal}
 use Rattle.rehearsal.specs.declared.report.Shown.{Shown}
-use Rattle.rehearsal.specs.declared.report.Shown.TheVariants.{Announce, Note, File, Line as Bad, Open}
+use Rattle.rehearsal.specs.declared.report.Shown.TheVariants.{Call as Called, Line as Bad, Open}
 use Rattle.rehearsal.specs.declared.report.Line.{Line}
+use Rattle.rehearsal.specs.Events.{call_text}
 
--- the word of a call
+-- the word of a call, or of what stands in its place
 abbrev pub word_text : Shown → List ℕ
-word_text Announce = codes "announce"
-word_text Note = codes "note"
-word_text File = codes "file"
+word_text (Called call) = call_text call
 word_text Bad = codes "line"
 word_text Open = codes "open"
 

@@ -1,9 +1,11 @@
 // What an event line says.
-ghost use Rattle.std.specs.Prelude.{◌≡◌, Some, None, MatchOption};
-ghost use Rattle.rehearsal.specs.Events.{call_of_word, fitting, meant, Fields, fields_of, event_of};
+ghost use Rattle.std.specs.Prelude.{◌≡◌, true, false, Some, None, MatchOption};
+ghost use Rattle.std.specs.Result.{result_ok};
+ghost use Rattle.rehearsal.specs.Events.{call_text, call_of_word, fitting, asked_call, asked_house, asked_number, meant, event_of};
 
-use crate::fields::{SPACE, cut, is_text, is_word, number};
+use crate::fields::{SPACE, cut, is_text, number};
 use edition::Number;
+use std::fmt;
 
 #[derive(Clone, Copy)]
 pub(crate) enum Call {
@@ -12,85 +14,92 @@ pub(crate) enum Call {
     File,
 }
 
+impl fmt::Display for Call {
+    ghost output = { λ call. Some (call_text call) };
+
+    fn fmt<W: fmt::Write>(&self, f: &mut fmt::Formatter<W>) -> fmt::Result {
+        f.write_str(match self {
+            Call::Announce => "announce",
+            Call::Note => "note",
+            Call::File => "file",
+        })
+    }
+}
+
+// The house whose edition it is, and the edition's number.
 #[derive(Clone, Copy)]
-pub(crate) struct Event<'a> {
-    pub(crate) call: Call,
-    // The house whose station is used.
-    pub(crate) at: u16,
-    // The house whose edition it is, and its number; both 0 in an announce.
+pub(crate) struct Named {
     pub(crate) house: u16,
     pub(crate) number: Number,
+}
+
+// A call with what it names.
+#[derive(Clone, Copy)]
+pub(crate) enum Asked {
+    // Of the station's own house and its next number, so it names neither.
+    Announce,
+    Note(Named),
+    File(Named),
+}
+
+#[derive(Clone, Copy)]
+pub(crate) struct Event<'a> {
+    pub(crate) asked: Asked,
+    // The house whose station is used.
+    pub(crate) at: u16,
     pub(crate) text: &'a [u8],
 }
 
-fn call_of(field: &[u8]) -> Option<Call>
-    ensures { result ≡ call_of_word field.now }
-{
-    if is_word(field, b"announce") {
-        Some(Call::Announce)
-    } else if is_word(field, b"note") {
-        Some(Call::Note)
-    } else if is_word(field, b"file") {
-        Some(Call::File)
-    } else {
-        None
-    }
-}
-
-// An announce is of the station's own house and its next number, so it names neither.
-fn fits(call: Call, house: u16, number: Number) -> bool
-    ensures { result ≡ fitting call house number }
-{
-    match call {
-        Call::Announce => house == 0 && number == 0,
-        Call::Note | Call::File => true,
-    }
-}
-
-// The bytes of the five fields.
+// A word that is no call's.
 #[derive(Clone, Copy)]
-struct Parts<'a> {
-    first: &'a [u8],
-    second: &'a [u8],
-    third: &'a [u8],
-    fourth: &'a [u8],
-    rest: &'a [u8],
+pub(crate) struct UnknownCall;
+
+impl<'a> TryFrom<&'a [u8]> for Call {
+    type Error = UnknownCall;
+
+    ghost try_from_gives = { λ word r. result_ok r ≡ call_of_word word.now };
+
+    fn try_from(word: &'a [u8]) -> Result<Call, UnknownCall> {
+        match word {
+            b"announce" => Ok(Call::Announce),
+            b"note" => Ok(Call::Note),
+            b"file" => Ok(Call::File),
+            _ => Err(UnknownCall),
+        }
+    }
 }
 
-fn part(line: &[u8]) -> Option<Parts<'_>>
-    ensures { MatchOption result (fields_of line.now ≡ None) (λ p. fields_of line.now ≡ Some (record { first = p.first.now; second = p.second.now; third = p.third.now; fourth = p.fourth.now; rest = p.rest.now })) }
-{
-    let (first, a) = cut(line, SPACE)?;
-    let (second, b) = cut(a, SPACE)?;
-    let (third, c) = cut(b, SPACE)?;
-    let (fourth, rest) = cut(c, SPACE)?;
-    Some(Parts {
-        first,
-        second,
-        third,
-        fourth,
-        rest,
-    })
+impl Asked {
+    // What a call asks. A line has 0 for the house and for the number that an announce does not name.
+    fn of(call: Call, house: u16, number: Number) -> Option<Asked>
+        ensures { MatchOption result (fitting call house number ≡ false) (λ a. (fitting call house number ≡ true) × (asked_call a ≡ call) × (asked_house a ≡ house) × (asked_number a ≡ number)) }
+    {
+        let named = Named { house, number };
+        match call {
+            Call::Announce if house == 0 && number == 0 => Some(Asked::Announce),
+            Call::Announce => None,
+            Call::Note => Some(Asked::Note(named)),
+            Call::File => Some(Asked::File(named)),
+        }
+    }
 }
 
 // The event of a line, given without its end; nothing where the line has not the right form.
+#[tactic(auto, unfolding(crate::specs::Events::event_of))]
 pub(crate) fn parse(line: &[u8]) -> Option<Event<'_>>
     ensures { MatchOption result (event_of line.now ≡ None) (λ e. event_of line.now ≡ Some (meant e)) }
 {
-    let parts = part(line)?;
-    let text = parts.rest;
-    let call = call_of(parts.first)?;
-    let at = number(parts.second)?;
-    let house = number(parts.third)?;
-    let number = number(parts.fourth)?;
-    if !fits(call, house, number) || !is_text(text) {
+    let (first, rest) = cut(line, SPACE)?;
+    let (second, rest) = cut(rest, SPACE)?;
+    let (third, rest) = cut(rest, SPACE)?;
+    let (fourth, text) = cut(rest, SPACE)?;
+    let call = Call::try_from(first).ok()?;
+    let at = number(second)?;
+    let house = number(third)?;
+    let number = number(fourth)?;
+    let asked = Asked::of(call, house, number)?;
+    if !is_text(text) {
         return None;
     }
-    Some(Event {
-        call,
-        at,
-        house,
-        number,
-        text,
-    })
+    Some(Event { asked, at, text })
 }

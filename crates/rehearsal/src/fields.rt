@@ -1,7 +1,6 @@
 // Lines, and the fields of a line.
-ghost use Rattle.std.specs.Prelude.{◌≡◌, ◌<◌, min, length, IfSome, Some, None, MatchOption};
-ghost use Rattle.std.specs.Str.{bytes_eq};
-ghost use Rattle.rehearsal.specs.Fields.{first_place, cut_at, read_on, zero_in_front, number_of_field, all_printable, text_field};
+ghost use Rattle.std.specs.Prelude.{◌≡◌, ◌<◌, ◌==◌, min, length, position, IfSome, Some, None, MatchOption};
+ghost use Rattle.rehearsal.specs.Fields.{cut_at, read_on, zero_in_front, number_of_field, all_printable, text_field};
 
 pub(crate) const LINE_END: u8 = b'\n';
 
@@ -12,29 +11,21 @@ const MOST_TEXT: usize = 64;
 // The largest number that a field may be.
 const MOST_NUMBER: u32 = 65_535;
 
-// Where a byte first stands, or the length where it stands nowhere.
-fn place_of(bytes: &[u8], byte: u8) -> usize
-    ensures { result ≡ first_place bytes.now byte }
+// Where a byte first stands.
+fn place_of(bytes: &[u8], byte: u8) -> Option<usize>
+    ensures { result ≡ position (λ x. x == byte) bytes.now }
 {
-    for (i, x) in bytes.iter().enumerate() {
-        if *x == byte {
-            return i;
-        }
-    }
-    bytes.len()
+    bytes.iter().position(|x| *x == byte)
 }
 
 // What stands before the first such byte, and what after it.
+#[tactic(auto, using(crate::proofs::Steps::cut_none, crate::proofs::Steps::cut_parts))]
 pub(crate) fn cut(bytes: &[u8], byte: u8) -> Option<(&[u8], &[u8])>
     ensures parts { MatchOption result (cut_at bytes.now byte ≡ None) (λ p. cut_at bytes.now byte ≡ Some (p.0.now, p.1.now)) }
     ensures shorter { IfSome result (λ p. length p.1.now < length bytes.now) }
 {
-    let place = place_of(bytes, byte);
-    if place < bytes.len() {
-        Some((&bytes[0..place], &bytes[place + 1..]))
-    } else {
-        None
-    }
+    let place = place_of(bytes, byte)?;
+    Some((&bytes[..place], &bytes[place + 1..]))
 }
 
 // The number that digits are, which may begin with 0, if it is not too large.
@@ -43,10 +34,10 @@ fn digits(field: &[u8]) -> Option<u16>
 {
     let mut value = 0u32;
     for byte in field {
-        if *byte < b'0' || *byte > b'9' {
+        if !byte.is_ascii_digit() {
             return None;
         }
-        value = value * 10 + (*byte - b'0') as u32;
+        value = value * 10 + u32::from(*byte - b'0');
         if value > MOST_NUMBER {
             return None;
         }
@@ -75,12 +66,7 @@ pub(crate) fn number(field: &[u8]) -> Option<u16>
 fn is_printable(field: &[u8]) -> bool
     ensures { result ≡ all_printable field.now }
 {
-    for byte in field {
-        if *byte < 33 || *byte > 126 {
-            return false;
-        }
-    }
-    true
+    field.iter().all(u8::is_ascii_graphic)
 }
 
 // Whether a field is a text.
@@ -94,12 +80,5 @@ pub(crate) fn is_text(field: &[u8]) -> bool
 pub(crate) fn capped(number: u16) -> u8
     ensures { result ≡ min number 255 }
 {
-    number.min(255) as u8
-}
-
-// Whether a field is a word.
-pub(crate) fn is_word(field: &[u8], word: &[u8]) -> bool
-    ensures { result ≡ bytes_eq field.now word.now }
-{
-    field == word
+    u8::try_from(number).unwrap_or(u8::MAX)
 }

@@ -1,8 +1,9 @@
 // The limits of an input, and its first three lines.
 ghost use Rattle.std.specs.Prelude.{◌≡◌, ◌≤◌, length, Some, None, MatchOption};
+ghost use Rattle.std.specs.Result.{result_ok};
 ghost use Rattle.rehearsal.specs.Openings.{rule_of, line_count, are_names, begin, numbers_of, opening_of};
 
-use crate::fields::{LINE_END, SPACE, cut, is_word, number};
+use crate::fields::{LINE_END, SPACE, cut, number};
 
 // The most bytes that an input may have.
 pub const MOST_INPUT: usize = 65_536;
@@ -25,31 +26,34 @@ pub(crate) struct Opening<'a> {
     pub(crate) events: &'a [u8],
 }
 
-fn mark_of(number: u16) -> Option<Mark>
-    ensures { result ≡ rule_of number }
-{
-    match number {
-        1 => Some(Mark::All),
-        2 => Some(Mark::Rotating),
-        _ => None,
+// A number that is no rule's mark.
+#[derive(Clone, Copy)]
+pub(crate) struct UnknownMark;
+
+impl TryFrom<u16> for Mark {
+    type Error = UnknownMark;
+
+    ghost try_from_gives = { λ number r. result_ok r ≡ rule_of number };
+
+    fn try_from(number: u16) -> Result<Mark, UnknownMark> {
+        match number {
+            1 => Ok(Mark::All),
+            2 => Ok(Mark::Rotating),
+            _ => Err(UnknownMark),
+        }
     }
 }
 
 // How many lines there are, one without its end included.
+#[tactic(auto, unfolding(crate::specs::Openings::line_count, crate::specs::Openings::end_count))]
 fn lines(bytes: &[u8]) -> usize
     requires { length bytes.now ≤ 65536 }
     ensures { result ≡ line_count bytes.now }
 {
-    let mut ends = 0;
-    for byte in bytes {
-        if *byte == LINE_END {
-            ends += 1;
-        }
-    }
-    if bytes.is_empty() || bytes[bytes.len() - 1] == LINE_END {
-        ends
-    } else {
-        ends + 1
+    let ends = bytes.iter().filter(|byte| **byte == LINE_END).count();
+    match bytes.last() {
+        Some(byte) if *byte != LINE_END => ends + 1,
+        _ => ends,
     }
 }
 
@@ -57,10 +61,11 @@ fn lines(bytes: &[u8]) -> usize
 fn are_names(first: &[u8], third: &[u8]) -> bool
     ensures { result ≡ are_names first.now third.now }
 {
-    is_word(first, b"houses bad rule") && is_word(third, b"call at house number text")
+    first == b"houses bad rule".as_slice() && third == b"call at house number text".as_slice()
 }
 
 // The numbers of the second line, with the events that are to follow.
+#[tactic(auto, unfolding(crate::specs::Openings::numbers_of))]
 fn read_numbers<'a>(line: &[u8], events: &'a [u8]) -> Option<Opening<'a>>
     ensures { MatchOption result (numbers_of line.now events.now ≡ None) (λ o. numbers_of line.now events.now ≡ Some (begin o)) }
 {
@@ -69,7 +74,7 @@ fn read_numbers<'a>(line: &[u8], events: &'a [u8]) -> Option<Opening<'a>>
     let houses = number(first)?;
     let faults = number(second)?;
     let rule = number(third)?;
-    let mark = mark_of(rule)?;
+    let mark = Mark::try_from(rule).ok()?;
     Some(Opening {
         houses,
         faults,
@@ -79,6 +84,7 @@ fn read_numbers<'a>(line: &[u8], events: &'a [u8]) -> Option<Opening<'a>>
 }
 
 // The opening of an input, nothing where the input is past a limit or one of the three lines has not its form.
+#[tactic(auto, unfolding(crate::specs::Openings::opening_of))]
 pub(crate) fn read_opening(input: &[u8]) -> Option<Opening<'_>>
     ensures { MatchOption result (opening_of input.now ≡ None) (λ o. opening_of input.now ≡ Some (begin o)) }
 {

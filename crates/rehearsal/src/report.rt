@@ -2,6 +2,7 @@
 ghost use Rattle.std.specs.Prelude.{◌≡◌, IfOk, Some, string_bytes};
 ghost use Rattle.rehearsal.specs.Reports.{word_text, outcome_number, outcome_value, line_text, report_text};
 
+use crate::events::Call;
 use refusal::Refusal;
 use std::alloc::{AllocError, Global};
 use std::fmt;
@@ -9,25 +10,21 @@ use std::fmt;
 // The call that a report names.
 #[derive(Clone, Copy)]
 pub(crate) enum Shown {
-    Announce,
-    Note,
-    File,
+    Call(Call),
     // A line that has not the right form.
     Line,
     // The opening, where it is refused.
     Open,
 }
 
-impl Shown {
-    fn word(self) -> &'static str
-        ensures { result.now ≡ word_text self }
-    {
+impl fmt::Display for Shown {
+    ghost output = { λ shown. Some (word_text shown) };
+
+    fn fmt<W: fmt::Write>(&self, f: &mut fmt::Formatter<W>) -> fmt::Result {
         match self {
-            Shown::Announce => "announce",
-            Shown::Note => "note",
-            Shown::File => "file",
-            Shown::Line => "line",
-            Shown::Open => "open",
+            Shown::Call(call) => write!(f, "{call}"),
+            Shown::Line => write!(f, "line"),
+            Shown::Open => write!(f, "open"),
         }
     }
 }
@@ -46,19 +43,13 @@ impl Line {
     fn refusal(self) -> u8
         ensures { result ≡ outcome_number self.outcome }
     {
-        match self.outcome {
-            Ok(_) => 0,
-            Err(refusal) => refusal.number(),
-        }
+        self.outcome.err().map_or(0, |refusal| refusal.number())
     }
 
     fn value(self) -> usize
         ensures { result ≡ outcome_value self.outcome }
     {
-        match self.outcome {
-            Ok(value) => value,
-            Err(_) => 0,
-        }
+        self.outcome.unwrap_or(0)
     }
 }
 
@@ -66,11 +57,14 @@ impl fmt::Display for Line {
     ghost output = { λ x. Some (line_text x) };
 
     fn fmt<W: fmt::Write>(&self, f: &mut fmt::Formatter<W>) -> fmt::Result {
-        let place = self.place;
-        let word = self.call.word();
-        let refusal = self.refusal();
-        let value = self.value();
-        write!(f, "{place} {word} {refusal} {value}")
+        write!(
+            f,
+            "{} {} {} {}",
+            self.place,
+            self.call,
+            self.refusal(),
+            self.value()
+        )
     }
 }
 
@@ -80,8 +74,7 @@ pub(crate) fn write_report(heap: Global, lines: &[Line]) -> Result<String, Alloc
 {
     let mut text = String::from_str(heap, "line call outcome value\n")?;
     for line in lines {
-        let shown = format!(in heap; "{line}\n")?;
-        text.push_str(shown.as_str())?;
+        writeln!(text, "{line}")?;
     }
     Ok(text)
 }

@@ -2,14 +2,14 @@
 ghost use Rattle.std.specs.Prelude.{◌≡◌, ◌<◌, ◌≤◌, [], length, IfOk, Ok, Err, MatchResult};
 ghost use Rattle.std.specs.Option.{option_map};
 ghost use Rattle.seal.specs.Registers.{row_at};
-ghost use Rattle.seal.specs.Rows.{entry_of, same_statement};
+ghost use Rattle.seal.specs.Rows.{entry_of, row_bytes};
 ghost use Rattle.exchange.specs.Stations.{fresh_station};
 ghost use Rattle.rehearsal.specs.Bundles.{row_step, rows_from, bundle_of};
 ghost use Rattle.rehearsal.specs.Calls.{station_place, announce_outcome, announce_stations, note_outcome, note_stations, NoteLeft, file_outcome, file_stations, Gave, stations_after, Left, shown_event, first_event, after_first};
-ghost use Rattle.rehearsal.specs.Events.{meant};
+ghost use Rattle.rehearsal.specs.Events.{asking, meant};
 ghost use Rattle.rehearsal.specs.Playing.{Fresh, Opens, Ran, Staged};
 
-use crate::events::{Call, Event, parse};
+use crate::events::{Asked, Call, Event, Named, parse};
 use crate::fields::{LINE_END, capped, cut};
 use crate::report::{Line, Shown};
 use edition::Number;
@@ -18,6 +18,7 @@ use refusal::{Refusal, Refused};
 use seal::{Register, Seal, Statement, Table};
 use sha256::{Digest, digest};
 use std::alloc::{AllocError, Global};
+use std::array;
 use witness::Rule;
 
 // How many rows of the register there are for each house.
@@ -37,40 +38,22 @@ fn station(house: u8) -> Station
     requires { house < 16 }
     ensures { result ≡ fresh_station house }
 {
-    match Station::open(house) {
-        Ok(station) => station,
-        Err(_) => unreachable(),
-    }
+    Station::open(house).unwrap()
 }
 
-fn same(x: Statement, y: Statement) -> bool
-    ensures { result ≡ same_statement x y }
+// The seal that names a row: its number.
+fn seal_of(row: usize) -> [u8; 2]
+    requires { row < 65536 }
+    ensures { result ≡ row_bytes row }
 {
-    x == y
+    (row as u16).to_be_bytes()
 }
 
 // A fresh station for each house, at the house's place.
 fn fresh_stations() -> [Station; STATIONS]
     ensures { Fresh result }
 {
-    [
-        station(0),
-        station(1),
-        station(2),
-        station(3),
-        station(4),
-        station(5),
-        station(6),
-        station(7),
-        station(8),
-        station(9),
-        station(10),
-        station(11),
-        station(12),
-        station(13),
-        station(14),
-        station(15),
-    ]
+    array::from_fn(|i| station(i as u8))
 }
 
 impl<R: Rule + Drop> Stage<R> {
@@ -91,49 +74,51 @@ impl<R: Rule + Drop> Stage<R> {
         ensures answer { result ≡ station_place (R.Rule.ruling self.now.exchange.rule).houses house }
         ensures bound { IfOk result (λ at. at < 16) }
     {
-        if house < self.exchange.rule().houses() as u16 {
+        if house < u16::from(self.exchange.rule().houses()) {
             Ok(house as usize)
         } else {
             Err(Refusal::StationHouse)
         }
     }
 
-    fn announce(&mut self, event: Event) -> Result<usize, Refusal>
-        ensures answer { result ≡ announce_outcome (R.Rule.ruling self.old.exchange.rule) self.old.stations (meant event.entry) }
-        ensures stations { self.new.stations ≡ announce_stations (R.Rule.ruling self.old.exchange.rule) self.old.stations (meant event.entry) }
+    fn announce(&mut self, at: u16, pages: &[u8]) -> Result<usize, Refusal>
+        ensures answer { result ≡ announce_outcome (R.Rule.ruling self.old.exchange.rule) self.old.stations (asking Asked.Announce at pages.now) }
+        ensures stations { self.new.stations ≡ announce_stations (R.Rule.ruling self.old.exchange.rule) self.old.stations (asking Asked.Announce at pages.now) }
         ensures exchange { self.new.exchange ≡ self.old.exchange }
     {
-        let at = self.station_of(event.at)?;
-        match self.exchange.announce(&mut self.stations[at], event.text) {
-            Ok((number, _)) => Ok(number as usize),
-            Err(refused) => Err(refused.refusal),
-        }
+        let at = self.station_of(at)?;
+        let (number, _) = self
+            .exchange
+            .announce(&mut self.stations[at], pages)
+            .map_err(|refused| refused.refusal)?;
+        Ok(number as usize)
     }
 
-    fn note(&mut self, event: Event) -> Result<usize, Refusal>
-        ensures answer { result ≡ note_outcome (R.Rule.ruling self.old.exchange.rule) self.old.exchange.seal self.old.stations (meant event.entry) }
-        ensures stations { self.new.stations ≡ note_stations (R.Rule.ruling self.old.exchange.rule) self.old.exchange.seal self.old.stations (meant event.entry) }
+    fn note(&mut self, at: u16, named: Named, text: &[u8]) -> Result<usize, Refusal>
+        ensures answer { result ≡ note_outcome (R.Rule.ruling self.old.exchange.rule) self.old.exchange.seal self.old.stations (asking (Asked.Note named) at text.now) }
+        ensures stations { self.new.stations ≡ note_stations (R.Rule.ruling self.old.exchange.rule) self.old.exchange.seal self.old.stations (asking (Asked.Note named) at text.now) }
         ensures rule { self.new.exchange.rule ≡ self.old.exchange.rule }
-        ensures register { NoteLeft (R.Rule.ruling self.old.exchange.rule) self.old.exchange.seal self.old.stations (meant event.entry) (station_place (R.Rule.ruling self.old.exchange.rule).houses event.entry.at) self.new.exchange.seal }
+        ensures register { NoteLeft (R.Rule.ruling self.old.exchange.rule) self.old.exchange.seal self.old.stations (asking (Asked.Note named) at text.now) (station_place (R.Rule.ruling self.old.exchange.rule).houses at) self.new.exchange.seal }
     {
-        let at = self.station_of(event.at)?;
+        let at = self.station_of(at)?;
         let row = self.exchange.seal().used();
-        let house = capped(event.house);
-        let noted = digest(event.text);
+        let house = capped(named.house);
+        let noted = digest(text);
         let mut seal = [0; 2];
-        match self.exchange.note(
-            &mut self.stations[at],
-            house,
-            event.number,
-            noted,
-            &mut seal,
-        ) {
-            Ok(()) => Ok(row),
-            Err(refused) => Err(refused.refusal),
-        }
+        self.exchange
+            .note(
+                &mut self.stations[at],
+                house,
+                named.number,
+                noted,
+                &mut seal,
+            )
+            .map_err(|refused| refused.refusal)?;
+        Ok(row)
     }
 
     // Adds the receipt of a row if it holds the statement; its seal is the row's number.
+    #[tactic(auto, unfolding(seal::specs::Rows::same_statement))]
     fn add_row(
         &self,
         i: usize,
@@ -146,14 +131,12 @@ impl<R: Rule + Drop> Stage<R> {
             (λ _. row_step (R.Rule.ruling self.now.exchange.rule) self.now.exchange.seal statement i (entry_of (row_at self.now.exchange.seal i)) gathering.old memory.old ≡ Ok (gathering.new, memory.new))
             (λ e. row_step (R.Rule.ruling self.now.exchange.rule) self.now.exchange.seal statement i (entry_of (row_at self.now.exchange.seal i)) gathering.old memory.old ≡ Err e) }
     {
-        let Some((house, signed)) = self.exchange.seal().row(i) else {
-            return Ok(());
-        };
-        if !same(signed, statement) {
-            return Ok(());
+        match self.exchange.seal().row(i) {
+            Some((house, signed)) if signed == statement => {
+                self.exchange.add(gathering, house, &seal_of(i), memory)
+            }
+            _ => Ok(()),
         }
-        let seal = [(i / 256) as u8, (i % 256) as u8];
-        self.exchange.add(gathering, house, &seal, memory)
     }
 
     // Adds the receipts of all rows that hold the statement, in their order.
@@ -188,45 +171,41 @@ impl<R: Rule + Drop> Stage<R> {
             (λ e. bundle_of (R.Rule.ruling self.now.exchange.rule) self.now.exchange.seal house number digest memory.old ≡ Err e) }
     {
         let mark = self.exchange.rule().mark();
-        let mut gathering = match self.exchange.start(house, number, digest) {
-            Ok(gathering) => gathering,
-            Err(refused) => return Err(refused.refusal),
-        };
+        let mut gathering = self
+            .exchange
+            .start(house, number, digest)
+            .map_err(|refused| refused.refusal)?;
         let statement = Statement {
             mark,
             house,
             number,
             digest,
         };
-        if let Err(refused) = self.gather(statement, &mut gathering, memory) {
-            return Err(refused.refusal);
-        }
-        let closed = match self.exchange.close(gathering) {
-            Ok(closed) => closed,
-            Err((refused, _)) => return Err(refused.refusal),
-        };
-        match self.exchange.issue(closed, memory) {
-            Ok(length) => Ok(length),
-            Err((refused, _)) => Err(refused.refusal),
-        }
+        self.gather(statement, &mut gathering, memory)
+            .map_err(|refused| refused.refusal)?;
+        let closed = self
+            .exchange
+            .close(gathering)
+            .map_err(|(refused, _)| refused.refusal)?;
+        self.exchange
+            .issue(closed, memory)
+            .map_err(|(refused, _)| refused.refusal)
     }
 
-    fn file(&mut self, event: Event) -> Result<usize, Refusal>
-        ensures answer { result ≡ file_outcome (R.Rule.ruling self.old.exchange.rule) self.old.exchange.seal self.old.stations (meant event.entry) }
-        ensures stations { self.new.stations ≡ file_stations (R.Rule.ruling self.old.exchange.rule) self.old.exchange.seal self.old.stations (meant event.entry) }
+    fn file(&mut self, at: u16, named: Named, text: &[u8]) -> Result<usize, Refusal>
+        ensures answer { result ≡ file_outcome (R.Rule.ruling self.old.exchange.rule) self.old.exchange.seal self.old.stations (asking (Asked.File named) at text.now) }
+        ensures stations { self.new.stations ≡ file_stations (R.Rule.ruling self.old.exchange.rule) self.old.exchange.seal self.old.stations (asking (Asked.File named) at text.now) }
         ensures exchange { self.new.exchange ≡ self.old.exchange }
     {
-        let at = self.station_of(event.at)?;
-        let house = capped(event.house);
+        let at = self.station_of(at)?;
+        let house = capped(named.house);
         let mut memory = [0; BUNDLE];
-        let length = self.bundle(house, event.number, digest(event.text), &mut memory)?;
-        match self
+        let length = self.bundle(house, named.number, digest(text), &mut memory)?;
+        let filing = self
             .exchange
-            .file(&mut self.stations[at], &memory[0..length], event.text)
-        {
-            Ok(filing) => Ok(filing.signers as usize),
-            Err(refused) => Err(refused.refusal),
-        }
+            .file(&mut self.stations[at], &memory[..length], text)
+            .map_err(|refused| refused.refusal)?;
+        Ok(filing.signers as usize)
     }
 
     // Runs an event line, or what stands for one that is not ended.
@@ -238,17 +217,21 @@ impl<R: Rule + Drop> Stage<R> {
         ensures stations { self.new.stations ≡ stations_after (R.Rule.ruling self.old.exchange.rule) self.old.exchange.seal self.old.stations (option_map meant event.entry) }
         ensures register { Left (R.Rule.ruling self.old.exchange.rule) self.old.exchange.seal self.old.stations (option_map meant event.entry) self.new.exchange.seal }
     {
-        let (call, outcome) = match event {
-            None => (Shown::Line, Err(Refusal::BadLine)),
-            Some(event) => match event.call {
-                Call::Announce => (Shown::Announce, self.announce(event)),
-                Call::Note => (Shown::Note, self.note(event)),
-                Call::File => (Shown::File, self.file(event)),
-            },
+        let Some(Event { asked, at, text }) = event else {
+            return Line {
+                place,
+                call: Shown::Line,
+                outcome: Err(Refusal::BadLine),
+            };
+        };
+        let (call, outcome) = match asked {
+            Asked::Announce => (Call::Announce, self.announce(at, text)),
+            Asked::Note(named) => (Call::Note, self.note(at, named, text)),
+            Asked::File(named) => (Call::File, self.file(at, named, text)),
         };
         Line {
             place,
-            call,
+            call: Shown::Call(call),
             outcome,
         }
     }

@@ -3,8 +3,8 @@ use Rattle.std.proofs.lemmas.Bool.Decides.{nat_tests}
 use Rattle.rehearsal.proofs.Steps.{passes, read_yes, read_no, read_end}
 use Rattle.rehearsal.proofs.fields.digits.Goals as goal
 
-pub returns-then-byte-lt48 : goal.returns-then-byte-lt48
-returns-then-byte-lt48 c =
+pub returns-then-not-is_ascii_digit : goal.returns-then-not-is_ascii_digit
+returns-then-not-is_ascii_digit c =
     let no : passes c.loop-byte.value (get_or c.args.field.now c.loop-byte.byte-index 0) ≡ false = grind (arith, nat_tests) in
     sym (c.loop-byte.invariant.1 ∙ read_no c.loop-byte.value c.args.field.now c.loop-byte.byte-index c.loop-byte-test.true no)
 
@@ -16,7 +16,7 @@ returns-then-value-gt-MOST_NUMBER c =
 pub loop-byte-preserved : goal.loop-byte-preserved
 loop-byte-preserved c =
     let yes : passes c.loop-byte.value (get_or c.args.field.now c.loop-byte.byte-index 0) ≡ true = grind (arith, nat_tests) in
-    (c.if-value-gt-MOST_NUMBER.false, c.loop-byte.invariant.1 ∙ read_yes c.loop-byte.value c.args.field.now c.loop-byte.byte-index c.loop-byte-test.true yes)
+    (c.if-value-gt-MOST_NUMBER.false, rw c.from.ensures (c.loop-byte.invariant.1 ∙ read_yes c.loop-byte.value c.args.field.now c.loop-byte.byte-index c.loop-byte-test.true yes))
 
 pub returns : goal.returns
 returns c = sym (c.loop-byte.invariant.1 ∙ read_end c.loop-byte.value c.args.field.now c.loop-byte.byte-index c.loop-byte-test.false)

@@ -1,24 +1,14 @@
-use Rattle.std.proofs.Common.{Ok, Err, ap, ◌∙◌}
-use Rattle.seal.specs.declared.register.Register.{Register}
-use Rattle.rehearsal.specs.Events.{meant}
-use Rattle.rehearsal.proofs.Outcomes.{note_gave}
+use Rattle.rehearsal.specs.declared.events.Asked.TheVariants.{Note}
+use Rattle.rehearsal.specs.Events.{asking}
+use Rattle.rehearsal.proofs.Outcomes.{note_signed}
 use Rattle.rehearsal.proofs.staging.Stage.note.Goals as goal
 
-pub returns-in-Ok : goal.returns-in-Ok
-returns-in-Ok g c =
+pub returns-in_err-map_err-clause-register : goal.returns-in_err-map_err-clause-register
+returns-in_err-map_err-clause-register g c =
     let rule = c.args.self.now.exchange.rule in
-    let did = c.in-Ok.ensures in
-    let all = note_gave (g.R.Rule.ruling rule) c.args.self.now.exchange.seal c.args.self.now.stations (meant c.args.event) c.in_ok-at.at c.capped-house.result c.digest-noted.result (Ok c.in-Ok.field-0) c.note.new.station _ _ (g.met.R.Rule.lawful rule).most c.in_ok-at.ensures.answer c.capped-house.ensures c.digest-noted.ensures did.answer did.station did.leaves in
-    record {
-      answer = ap Ok (c.used-row.ensures ∙ ap (λ (s : Register). s.used) c.seal.ensures) ∙ all.answer;
-      stations = all.stations;
-      rule = did.rule;
-      register = all.register;
-    }
+    note_signed (g.R.Rule.ruling rule) c.args.self.now.exchange.seal c.args.self.now.stations (asking (Note c.args.named) c.args.at c.args.text.now) c.in_ok-at.at c.capped-house.result c.digest-noted.result c.note.result _ _ (g.met.R.Rule.lawful rule).most c.in_ok-at.ensures.answer c.capped-house.ensures c.digest-noted.ensures c.note.ensures.answer c.note.ensures.leaves
 
-pub returns-in-Err : goal.returns-in-Err
-returns-in-Err g c =
+pub returns-clause-register : goal.returns-clause-register
+returns-clause-register g c =
     let rule = c.args.self.now.exchange.rule in
-    let did = c.in-Err.ensures in
-    let all = note_gave (g.R.Rule.ruling rule) c.args.self.now.exchange.seal c.args.self.now.stations (meant c.args.event) c.in_ok-at.at c.capped-house.result c.digest-noted.result (Err c.in-Err.refused) c.note.new.station _ _ (g.met.R.Rule.lawful rule).most c.in_ok-at.ensures.answer c.capped-house.ensures c.digest-noted.ensures did.answer did.station did.leaves in
-    record { answer = all.answer; stations = all.stations; rule = did.rule; register = all.register }
+    note_signed (g.R.Rule.ruling rule) c.args.self.now.exchange.seal c.args.self.now.stations (asking (Note c.args.named) c.args.at c.args.text.now) c.in_ok-at.at c.capped-house.result c.digest-noted.result c.note.result _ _ (g.met.R.Rule.lawful rule).most c.in_ok-at.ensures.answer c.capped-house.ensures c.digest-noted.ensures c.note.ensures.answer c.note.ensures.leaves
