@@ -51,15 +51,9 @@ fn note_all(
     digest: Digest,
 ) -> Result<Seals, Stop> {
     let mut seals = [[0; SEAL_BYTES]; WITNESSES];
-    for house in 0..WITNESSES {
-        exchange.note(
-            &mut stations[house],
-            AUTHOR,
-            number,
-            digest,
-            &mut seals[house],
-        )?;
-        println!(rt; "note {house} {}", Hexadecimal::new(&seals[house]))?;
+    for (station, seal) in stations.iter_mut().zip(&mut seals) {
+        exchange.note(station, AUTHOR, number, digest, seal)?;
+        println!(rt; "note {} {}", station.house(), Hexadecimal::new(seal))?;
     }
     Ok(seals)
 }
@@ -75,8 +69,8 @@ fn gather(
 ) -> Result<Closed, Stop> {
     let mut gathering = exchange.start(AUTHOR, number, digest)?;
     println!(rt; "start {AUTHOR} {number}")?;
-    for house in 0..WITNESSES {
-        exchange.add(&mut gathering, house as u8, &seals[house], memory)?;
+    for (house, seal) in (0..).zip(seals) {
+        exchange.add(&mut gathering, house, seal, memory)?;
         println!(rt; "add {house}")?;
     }
     let closed = exchange.close(gathering)?;
