@@ -11,7 +11,7 @@ use Rattle.sha256.specs.Text.{digest_of, bytes32}
 use Rattle.edition.specs.Pages.{most_bytes}
 use Rattle.seal.specs.declared.register.Register.{Register}
 use Rattle.seal.specs.declared.statement.Statement.{Statement}
-use Rattle.seal.specs.Registers.{Unused, Entered, register}
+use Rattle.seal.specs.Registers.{used, Unused, Entered, register}
 use Rattle.seal.specs.Rows.{row_bytes}
 use Rattle.seal.specs.Statements.{laid_out, statement_bytes}
 use Rattle.seal.specs.RegisterLaws.{register_meant}
@@ -41,7 +41,7 @@ bundle_memory = replicate 40 0
 module _ (p : List ℕ) (e s : Register) where
   -- the seal of house 0
   abbrev z : List ℕ
-  z = row_bytes e.used
+  z = row_bytes (used e)
 
   abbrev statement : Statement
   statement = statement_of alone 0 1 (digest_of p)

@@ -1,5 +1,6 @@
 // The steps from the pages to the bundle, each with its line.
 ghost use Rattle.std.specs.Prelude.{◌≡◌, IfOk};
+ghost use Rattle.seal.specs.Registers.{register, used};
 
 use crate::hexadecimal::Hexadecimal;
 use crate::stop::Stop;
@@ -36,7 +37,7 @@ type Seals = [[u8; SEAL_BYTES]; WITNESSES];
 
 pub fn opened(heap: Global) -> Result<FourHouses, Stop>
     ensures rule { IfOk result (λ x. (x.rule.houses.count ≡ 4) × (x.rule.houses.faults ≡ 1)) }
-    ensures register { IfOk result (λ x. (x.seal.houses ≡ 4) × (x.seal.used ≡ 0)) }
+    ensures register { IfOk result (λ x. (register.houses x.seal ≡ 4) × (used x.seal ≡ 0)) }
 {
     let rule = Rotating::open(HOUSES, FAULTS)?;
     let register = Register::open(HOUSES, Table::new(heap, ROWS)?)?;

@@ -1,4 +1,4 @@
 mod Masks
 mod Differences
 pub mod Stamps
-mod Examples
+pub mod Examples

@@ -1,23 +1,16 @@
 -- Laws of the numbers of seals that are shared out.
-use Rattle.std.proofs.Common.{◌≡◌, ℕ, zero, suc, ◌+◌, ◌-◌, ◌*◌, ◌≤◌, ◌++◌, take, drop, length, replicate, sum, sym, ap, ◌∙◌, ap₂, add-zero, suc-mul, add_comm, mul-zero, zero-mul, length-take-le}
+use Rattle.std.proofs.Common.{◌≡◌, ℕ, ◌+◌, ◌-◌, ◌*◌, ◌≤◌, ◌++◌, take, drop, length, replicate, sum, ap, ◌∙◌, ap₂, add-zero, mul-zero, length-take-le}
 use Rattle.std.proofs.lemmas.List.{drop-replicate}
-use Rattle.std.proofs.lemmas.List.Sums.{sum_by-append, sum_by-cons}
+use Rattle.std.proofs.lemmas.List.Folds.{sum_by-replicate}
+use Rattle.std.proofs.lemmas.List.Sums.{sum_by-append}
 use Rattle.seal.specs.declared.houses.Supply.{Supply}
 use Rattle.seal.specs.Houses.{most_houses, shares}
-
-sum_replicate : (n each : ℕ) → sum (replicate n each) ≡ n * each
-sum_replicate zero each = sym (zero-mul each)
-sum_replicate (suc n) each =
-    sum_by-cons (λ (x : ℕ). x) each (replicate n each)
-    ∙ ap (λ (v : ℕ). each + v) (sum_replicate n each)
-    ∙ add_comm each (n * each)
-    ∙ sym (suc-mul n each)
 
 pub shares_sum : (n each : ℕ) → sum (shares n each) ≡ n * each
 unfolding shares
 shares_sum n each =
     sum_by-append (λ (x : ℕ). x) (replicate n each) (replicate (most_houses - n) 0)
-    ∙ ap₂ (λ (a b : ℕ). a + b) (sum_replicate n each) (sum_replicate (most_houses - n) 0 ∙ mul-zero (most_houses - n))
+    ∙ ap₂ (λ (a b : ℕ). a + b) (sum_by-replicate (λ (x : ℕ). x) n each) (sum_by-replicate (λ (x : ℕ). x) (most_houses - n) 0 ∙ mul-zero (most_houses - n))
     ∙ add-zero (n * each)
 
 -- a supply of no house has no seal

@@ -58,6 +58,6 @@ register_asked n rows = ask (house_count n) HouseCount (ask (nat_le n rows && na
 -- a register of n houses with so many seals each, as it begins with its table
 pub record Begun (s : Register) (n each : ℕ) (table : Table) : Type 0 where
   pub of_houses : s.supply.houses ≡ n
-  pub of_rows : s.entries ≡ table.entries
+  pub of_table : s.entries ≡ table.entries
   pub all_left : s.supply.left ≡ shares n each
   pub none_used : Unused s

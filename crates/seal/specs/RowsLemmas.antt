@@ -1,7 +1,6 @@
 -- When a row holds a house and a statement.
-use Rattle.std.specs.Prelude.{◌≡◌, ℕ, zero, suc, ◌<◌, Bool, true, ◌&&◌, List, [], ◌∷◌, ◌++◌, length, Some, None, Option, Decides, ◌==◌, ◌≢◌, refl}
+use Rattle.std.specs.Prelude.{◌≡◌, ℕ, zero, suc, ◌<◌, true, List, [], ◌∷◌, ◌++◌, length, Some, Decides, ◌==◌, ◌≢◌, refl}
 use Rattle.std.specs.List.{slice_get}
-use Rattle.std.specs.Option.{option_eq}
 use Rattle.std.proofs.Common.{ap, ◌∙◌, arith}
 use Rattle.std.proofs.lemmas.Slice.Eq.{bytes_eq-Decides}
 use Rattle.std.proofs.lemmas.Bool.{false≢true, and_parts, and_from, eqb-true, eq-eqb}
@@ -58,9 +57,3 @@ other_rows (x ∷ entries) y (suc k) other = other_rows entries y k (λ e. other
 
 pub row_number_bytes : (k : ℕ) → row_number (row_bytes k) ≡ k
 row_number_bytes k = omega arith
-
--- a test of entries tells of a row what it tells of the entry there
-pub row_is : (same : Entry → Entry → Bool) (i : ℕ) (x : Statement)
-    → ((e : Entry) → same e (entry i x) ≡ (e.house == i && same_statement e.statement x)) → (row : Option Entry) → option_eq same row (Some (entry i x)) ≡ holds row i x
-row_is same i x tells None = refl
-row_is same i x tells (Some e) = tells e

@@ -51,7 +51,7 @@ impl Supply {
         }
     }
 
-    // What each sign asks: whether the house has a seal left, and the memory room for a seal.
+    // What each sign asks: whether the house has a seal left, and the memory room for a seal. What it does then is a line or two, and differs by kind: a shared sign would take those as closures, and be longer.
     pub(crate) fn ask(&self, house: u8, size: usize, room: usize) -> Result<(), Refusal>
         ensures answer { result ≡ sign_asked (left_of self.now.houses self.now.left house) size room }
         ensures taken { OnOk result ((0 < left_of self.now.houses self.now.left house) × (size ≤ room)) }

@@ -19,6 +19,7 @@ pub use statement::{STATEMENT_BYTES, Statement};
 pub use table::Table;
 
 // Whatever checks in a register was signed since it was opened, by that house and on that statement.
+#[tactic(auto, using(crate::proofs::Signings::seals_are_signed))]
 pub fn register_seals_are_signed()
     ensures { SealsAreSigned }
 {}

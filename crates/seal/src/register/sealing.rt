@@ -20,7 +20,7 @@ impl Register {
     }
 
     // Whether the house signed the statement in the row.
-    #[tactic(auto, using(crate::specs::RowsLemmas::row_is), unfolding(crate::specs::Rows::same_statement))]
+    #[tactic(auto, using(crate::proofs::Rows::row_is), unfolding(crate::specs::Rows::same_statement))]
     fn holds(&self, i: usize, house: u8, statement: Statement) -> bool
         ensures { result ≡ holds (row_at self.now i) house statement }
     {

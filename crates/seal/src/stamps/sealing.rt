@@ -11,6 +11,7 @@ use refusal::Refusal;
 
 impl Stamps {
     // The house's stamp on the statement.
+    #[tactic(auto, using(crate::proofs::Keys::block_at))]
     fn stamp(&self, house: u8, statement: Statement) -> [u8; 32]
         requires { house < self.now.supply.houses }
         ensures { result ≡ stamp_of self.now.keys house statement }
