@@ -33,8 +33,7 @@ impl Row {
     pub(crate) fn is_next(&self, number: Number) -> Result<(), Refusal>
         ensures { result ≡ ask (nat_lt self.now.last number) NumberPast (ask (number == self.now.last + 1) NumberAhead (Ok tt)) }
     {
-        Refusal::NumberPast.unless(number > self.last)?;
-        Refusal::NumberAhead.unless(number - self.last == 1)
+        Refusal::NumberAhead.unless(self.place_of(number)? == 0)
     }
 
     // The next number is filed: the slots move down by one, and the fourth is empty.
