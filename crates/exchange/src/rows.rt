@@ -36,7 +36,7 @@ impl Row {
         Refusal::NumberAhead.unless(self.place_of(number)? == 0)
     }
 
-    // The next number is filed: the slots move down by one, and the fourth is empty.
+    // The next number is filed, which its one caller has asked by is_next: the slots move down by one, and the fourth is empty.
     pub(crate) fn file(&mut self, number: Number)
         requires { number ≡ self.old.last + 1 }
         ensures { self.new ≡ filed_row self.old }

@@ -1,11 +1,11 @@
-use Rattle.std.proofs.Common.{◌≡◌, ℕ, ◌≤◌, ap, ap₂, sym, ◌∙◌, true, false, eqb, ltb, leb, List, length, Err, rules, arith}
+use Rattle.std.proofs.Common.{◌≡◌, ℕ, ◌≤◌, ap, ap₂, sym, ◌∙◌, true, false, eqb, ltb, List, length, Err, rules}
 use Rattle.std.proofs.lemmas.Result.{err_from_is_err_and}
 use Rattle.std.proofs.lemmas.Bool.{le-leb}
 use Rattle.refusal.specs.Questions.{whole}
 use Rattle.sha256.specs.Text.{digest_of}
 use Rattle.seal.specs.declared.statement.Statement.{Statement}
 use Rattle.exchange.specs.Stations.{same_digest}
-use Rattle.exchange.specs.Layout.{head_length, receipt_at, bundle_mark, bundle_house, bundle_digest, bundle_count, bundle_statement}
+use Rattle.exchange.specs.Layout.{head_length, receipt_at, bundle_digest, bundle_count, bundle_statement}
 use Rattle.exchange.proofs.Questions.{asked, denied}
 use Rattle.exchange.proofs.Parts.{other_number, other_length}
 use Rattle.exchange.proofs.opening.Exchange.parted.Goals as goal
@@ -23,7 +23,7 @@ returns-in_err-is_next g c =
     let marked = ap₂ eqb (sym (ap (λ (y : Statement). y.mark) read)) (sym c.mark.ensures) ∙ (asked _ _ _ _ (sym c.in_ok-unless-2.ensures)).0 in
     let housed = ap (λ (h : ℕ). ltb h r.houses) (sym house) ∙ sym c.has-2.ensures ∙ (asked _ _ _ _ (sym c.in_ok-unless-3.ensures)).0 in
     let refused = other_number r k c.args.station.now b c.args.pages.now member (asked _ _ _ _ (sym c.in_ok-admit.ensures)).0 (le-leb _ _ long) marked housed
-        _ _ _ (c.from.ensures ∙ house) (ap (λ (y : Statement). y.number) read) (sym c.in_err-is_next.ensures) in
+    _ _ _ (c.from.ensures ∙ house) (ap (λ (y : Statement). y.number) read) (sym c.in_err-is_next.ensures) in
     let exit = err_from_is_err_and c.from_residual-in_err-is_next.result c.from_residual-in_err-is_next.ensures.1 in
     rw (exit.1, exit.2) refused
 
@@ -48,6 +48,6 @@ returns-in_err-unless-5 g c =
     let other : eqb (length b) (receipt_at k.size (bundle_count b)) ≡ false =
     ap (λ (n : ℕ). eqb (length b) n) (sym (c.receipt_at-length.ensures ∙ ap₂ receipt_at c.seal_len.ensures (c.from-2.ensures ∙ count))) ∙ no.0 in
     let refused = other_length r k c.args.station.now b p member (asked _ _ _ _ (sym c.in_ok-admit.ensures)).0 (le-leb _ _ long) marked housed
-        _ _ _ (c.from.ensures ∙ house) (ap (λ (y : Statement). y.number) read) (sym c.in_ok-is_next.ensures) same other in
+    _ _ _ (c.from.ensures ∙ house) (ap (λ (y : Statement). y.number) read) (sym c.in_ok-is_next.ensures) same other in
     let exit = err_from_is_err_and c.from_residual-in_err-unless-5.result c.from_residual-in_err-unless-5.ensures.1 in
     rw (exit.1, exit.2) (refused ∙ ap (λ e. Err (whole e)) (sym no.1))
