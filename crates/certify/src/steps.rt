@@ -3,10 +3,8 @@ ghost use Rattle.std.specs.Prelude.{◌≡◌, IfOk};
 
 use crate::hexadecimal::Hexadecimal;
 use crate::stop::Stop;
-use edition::Number;
-use exchange::{Closed, Exchange, Station};
+use exchange::{Closed, Exchange, Notice, Station};
 use seal::{Register, Seal, Table};
-use sha256::Digest;
 use std::alloc::Global;
 use witness::Rotating;
 
@@ -47,18 +45,11 @@ fn note_all(
     rt: &HostRuntime,
     exchange: &mut FourHouses,
     stations: &mut [Station; WITNESSES],
-    number: Number,
-    digest: Digest,
+    notice: Notice,
 ) -> Result<Seals, Stop> {
     let mut seals = [[0; SEAL_BYTES]; WITNESSES];
     for house in 0..WITNESSES {
-        exchange.note(
-            &mut stations[house],
-            AUTHOR,
-            number,
-            digest,
-            &mut seals[house],
-        )?;
+        exchange.note(&mut stations[house], notice, &mut seals[house])?;
         println!(rt; "note {house} {}", Hexadecimal::new(&seals[house]))?;
     }
     Ok(seals)
@@ -68,13 +59,12 @@ fn note_all(
 fn gather(
     rt: &HostRuntime,
     exchange: &FourHouses,
-    number: Number,
-    digest: Digest,
+    notice: Notice,
     seals: &Seals,
     memory: &mut [u8],
 ) -> Result<Closed, Stop> {
-    let mut gathering = exchange.start(AUTHOR, number, digest)?;
-    println!(rt; "start {AUTHOR} {number}")?;
+    let mut gathering = exchange.start(notice)?;
+    println!(rt; "start {} {}", notice.house, notice.number)?;
     for house in 0..WITNESSES {
         exchange.add(&mut gathering, house as u8, &seals[house], memory)?;
         println!(rt; "add {house}")?;
@@ -88,9 +78,14 @@ pub fn certify(rt: &HostRuntime, exchange: &mut FourHouses, pages: &[u8]) -> Res
     let mut stations = [Station::open(0)?, Station::open(1)?, Station::open(2)?];
     let (number, digest) = exchange.announce(&mut stations[AUTHOR as usize], pages)?;
     println!(rt; "announce {AUTHOR} {number} {digest}")?;
-    let seals = note_all(rt, exchange, &mut stations, number, digest)?;
+    let notice = Notice {
+        house: AUTHOR,
+        number,
+        digest,
+    };
+    let seals = note_all(rt, exchange, &mut stations, notice)?;
     let mut memory = [0; BUNDLE_ROOM];
-    let closed = gather(rt, exchange, number, digest, &seals, &mut memory)?;
+    let closed = gather(rt, exchange, notice, &seals, &mut memory)?;
     let length = exchange.issue(closed, &mut memory)?;
     println!(rt; "issue {length}")?;
     println!(rt; "bundle {}", Hexadecimal::front(&memory, length))?;

@@ -13,7 +13,7 @@ use crate::events::{Call, Event, parse};
 use crate::fields::{LINE_END, capped, cut};
 use crate::report::{Line, Shown};
 use edition::Number;
-use exchange::{Exchange, Gathering, Station};
+use exchange::{Exchange, Gathering, Notice, Station};
 use refusal::{Refusal, Refused};
 use seal::{Register, Seal, Statement, Table};
 use sha256::{Digest, digest};
@@ -120,14 +120,13 @@ impl<R: Rule + Drop> Stage<R> {
         let row = self.exchange.seal().used();
         let house = capped(event.house);
         let noted = digest(event.text);
-        let mut seal = [0; 2];
-        match self.exchange.note(
-            &mut self.stations[at],
+        let notice = Notice {
             house,
-            event.number,
-            noted,
-            &mut seal,
-        ) {
+            number: event.number,
+            digest: noted,
+        };
+        let mut seal = [0; 2];
+        match self.exchange.note(&mut self.stations[at], notice, &mut seal) {
             Ok(()) => Ok(row),
             Err(refused) => Err(refused.refusal),
         }
@@ -188,7 +187,11 @@ impl<R: Rule + Drop> Stage<R> {
             (λ e. bundle_of (R.Rule.ruling self.now.exchange.rule) self.now.exchange.seal house number digest memory.old ≡ Err e) }
     {
         let mark = self.exchange.rule().mark();
-        let mut gathering = match self.exchange.start(house, number, digest) {
+        let mut gathering = match self.exchange.start(Notice {
+            house,
+            number,
+            digest,
+        }) {
             Ok(gathering) => gathering,
             Err(refused) => return Err(refused.refusal),
         };
