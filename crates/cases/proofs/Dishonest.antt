@@ -85,7 +85,7 @@ module _ (p q : List ℕ) (e s1 s2 s3 s4 s5 s6 : Register) where
 
   -- the gathering from its start to its close, and its memory
   abbrev g0 : Gathering
-  g0 = record { house = 0; number = 1; digest = digest_of p; gathered = 0 }
+  g0 = record { notice = record { house = 0; number = 1; digest = digest_of p }; gathered = 0 }
 
   abbrev g1 : Gathering
   g1 = with_house g0 0

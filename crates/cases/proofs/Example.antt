@@ -55,7 +55,7 @@ module _ (p : List ℕ) (e s : Register) where
 
   -- the gathering at its start, and with the receipt
   abbrev starting : Gathering
-  starting = record { house = 0; number = 1; digest = digest_of p; gathered = 0 }
+  starting = record { notice = record { house = 0; number = 1; digest = digest_of p }; gathered = 0 }
 
   abbrev adding : Gathering
   adding = with_house starting 0

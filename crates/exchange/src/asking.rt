@@ -27,7 +27,7 @@ impl<R: Rule, S: Seal> Exchange<R, S> {
     }
 
     // What a witness of a notice signs.
-    pub(crate) fn statement(&self, notice: Notice) -> Statement
+    pub fn statement(&self, notice: Notice) -> Statement
         ensures { result ≡ statement_of (R.Rule.ruling self.now.rule) notice.house notice.number notice.digest }
     {
         Statement {

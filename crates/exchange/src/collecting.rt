@@ -62,6 +62,7 @@ impl<R: Rule, S: Seal> Exchange<R, S> {
         ensures { result ≡ close_answer (R.Rule.ruling self.now.rule) gathering }
     {
         let Notice { house, number, .. } = gathering.notice;
+        // An `if`, as below: a refusal hands back what `unless` would not carry.
         if !self.rule.accepts(house, number, gathering.gathered) {
             return Err((Refused::new(Refusal::NotAccepted), gathering));
         }

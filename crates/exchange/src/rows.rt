@@ -33,11 +33,10 @@ impl Row {
     pub(crate) fn is_next(&self, number: Number) -> Result<(), Refusal>
         ensures { result ≡ ask (nat_lt self.now.last number) NumberPast (ask (number == self.now.last + 1) NumberAhead (Ok tt)) }
     {
-        Refusal::NumberPast.unless(number > self.last)?;
-        Refusal::NumberAhead.unless(number - self.last == 1)
+        Refusal::NumberAhead.unless(self.place_of(number)? == 0)
     }
 
-    // The next number is filed: the slots move down by one, and the fourth is empty.
+    // The next number is filed, which its one caller has asked by is_next: the slots move down by one, and the fourth is empty.
     pub(crate) fn file(&mut self, number: Number)
         requires { number ≡ self.old.last + 1 }
         ensures { self.new ≡ filed_row self.old }
