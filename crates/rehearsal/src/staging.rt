@@ -44,11 +44,11 @@ fn station(house: u8) -> Station
 
 // The event lines that are left.
 #[derive(Drop)]
-struct Lines<'a> {
+struct EventLines<'a> {
     rest: &'a [u8],
 }
 
-impl<'a> Iterator for Lines<'a> {
+impl<'a> Iterator for EventLines<'a> {
     // The event of a line, nothing if the line has not the right form or no end.
     type Item = Option<Event<'a>>;
 
@@ -272,7 +272,7 @@ impl<R: Rule + Drop> Stage<R> {
             v.items) }
     {
         let mut report = Vec::new(heap);
-        for event in (Lines { rest: events }) {
+        for event in (EventLines { rest: events }) {
             let line = self.run(report.len() + 1, event);
             report.push(line)?;
         }
