@@ -1,5 +1,5 @@
 -- What the calls of a rehearsal give, by the exchange's own answers.
-use Rattle.std.specs.Prelude.{◌≡◌, ℕ, List, [], ◌∷◌, take, replicate, Some, None, Ok, Err, Option, Result, nat_lt, slice_index_or, slice_set}
+use Rattle.std.specs.Prelude.{◌≡◌, ◌<◌, ℕ, List, [], ◌∷◌, length, take, replicate, Some, None, Ok, Err, Option, Result, nat_lt, slice_index_or, slice_set}
 use Rattle.refusal.specs.Questions.{ask, after}
 use Rattle.refusal.specs.declared.Refusal.{Refusal}
 use Rattle.refusal.specs.declared.Refusal.TheVariants.{StationHouse, BadLine}
@@ -124,3 +124,7 @@ rest_of (Some p) = p.1
 -- what follows the first line
 abbrev pub after_first : List ℕ → List ℕ
 after_first bytes = rest_of (cut_at bytes 10)
+
+-- the first line is taken: what it says, and what follows it
+abbrev pub TakesLine : List ℕ → Option Meant → List ℕ → Type 0
+TakesLine bytes event after = (0 < length bytes) × (event ≡ first_event bytes) × (after ≡ after_first bytes)

@@ -53,6 +53,7 @@ fn leads_with_zero(field: &[u8]) -> bool
 }
 
 // The number that a field is.
+#[tactic(auto, unfolding(crate::specs::Fields::number_of_field))]
 pub(crate) fn number(field: &[u8]) -> Option<u16>
     ensures { result ≡ number_of_field field.now }
 {
@@ -70,6 +71,7 @@ fn is_printable(field: &[u8]) -> bool
 }
 
 // Whether a field is a text.
+#[tactic(auto, unfolding(crate::specs::Fields::text_field))]
 pub(crate) fn is_text(field: &[u8]) -> bool
     ensures { result ≡ text_field field.now }
 {

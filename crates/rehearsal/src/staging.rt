@@ -1,12 +1,13 @@
 // The exchange of a rehearsal with a station for each house, and the calls played on them.
-ghost use Rattle.std.specs.Prelude.{◌≡◌, ◌<◌, ◌≤◌, [], min, length, IfOk, Ok, Err, MatchResult};
+ghost use Rattle.std.specs.Prelude.{◌≡◌, ◌<◌, ◌≤◌, [], min, length, IfOk, Ok, Err, MatchOption, MatchResult};
+ghost use Rattle.std.specs.Iterator.{at_most};
 ghost use Rattle.std.specs.Option.{option_map};
 ghost use Rattle.sha256.specs.Text.{digest_of};
 ghost use Rattle.seal.specs.Registers.{row_at};
 ghost use Rattle.seal.specs.Rows.{entry_of, row_bytes};
 ghost use Rattle.exchange.specs.Stations.{fresh_station};
 ghost use Rattle.rehearsal.specs.Bundles.{row_step, rows_from, bundle_of};
-ghost use Rattle.rehearsal.specs.Calls.{station_place, announce_outcome, announce_stations, note_outcome, note_stations, NoteLeft, file_outcome, file_stations, Gave, stations_after, Left, shown_event, first_event, after_first};
+ghost use Rattle.rehearsal.specs.Calls.{station_place, announce_outcome, announce_stations, note_outcome, note_stations, NoteLeft, file_outcome, file_stations, Gave, stations_after, Left, shown_event, TakesLine};
 ghost use Rattle.rehearsal.specs.Events.{asking, meant};
 ghost use Rattle.rehearsal.specs.Playing.{Fresh, Opens, Ran, Staged};
 
@@ -39,6 +40,33 @@ fn station(house: u8) -> Station
     ensures { result ≡ fresh_station house }
 {
     Station::open(house).unwrap()
+}
+
+// The event lines that are left.
+#[derive(Drop)]
+struct EventLines<'a> {
+    rest: &'a [u8],
+}
+
+impl<'a> Iterator for EventLines<'a> {
+    // The event of a line, nothing if the line has not the right form or no end.
+    type Item = Option<Event<'a>>;
+
+    ghost next_gives = { λ lines event left. MatchOption event ((lines.rest.now ≡ []) × (left ≡ lines)) (λ e. TakesLine lines.rest.now (option_map meant e) left.rest.now) };
+
+    ghost remaining = { λ lines. at_most (length lines.rest.now) };
+
+    fn next(&mut self) -> Option<Option<Event<'a>>> {
+        if self.rest.is_empty() {
+            return None;
+        }
+        let (event, after): (Option<Event>, &[u8]) = match cut(self.rest, LINE_END) {
+            Some((line, after)) => (parse(line), after),
+            None => (None, &[]),
+        };
+        self.rest = after;
+        Some(event)
+    }
 }
 
 // The seal that names a row: its number.
@@ -239,27 +267,11 @@ impl<R: Rule + Drop> Stage<R> {
             v.items) }
     {
         let mut report = Vec::new(heap);
-        let mut rest = events;
-        while !rest.is_empty() {
-            let (event, after) = next_event(rest);
+        for event in (EventLines { rest: events }) {
             let line = self.run(report.len() + 1, event);
             report.push(line)?;
-            rest = after;
         }
         Ok(report)
-    }
-}
-
-// The event of the first line, nothing if the line has not the right form or no end, and what follows the line.
-fn next_event(events: &[u8]) -> (Option<Event<'_>>, &[u8])
-    requires { 0 < length events.now }
-    ensures event { option_map meant result.0 ≡ first_event events.now }
-    ensures rest { result.1.now ≡ after_first events.now }
-    ensures shorter { length result.1.now < length events.now }
-{
-    match cut(events, LINE_END) {
-        Some((line, after)) => (parse(line), after),
-        None => (None, &[]),
     }
 }
 
