@@ -90,7 +90,7 @@ impl<R: Rule + Drop> Stage<R> {
         ensures opens { IfOk result (λ s. Opens (R.Rule.ruling rule).houses s.exchange.seal s.stations) }
     {
         let houses = rule.houses();
-        let table = Table::new(heap, ROWS_EACH * houses as usize)?;
+        let table = Table::new(heap, ROWS_EACH * usize::from(houses))?;
         Ok(Stage {
             exchange: Exchange::open(rule, Register::new(houses, table)),
             stations: fresh_stations(),
@@ -103,7 +103,7 @@ impl<R: Rule + Drop> Stage<R> {
         ensures bound { IfOk result (λ at. at < 16) }
     {
         if house < u16::from(self.exchange.rule().houses()) {
-            Ok(house as usize)
+            Ok(usize::from(house))
         } else {
             Err(Refusal::StationHouse)
         }
@@ -119,7 +119,7 @@ impl<R: Rule + Drop> Stage<R> {
             .exchange
             .announce(&mut self.stations[at], pages)
             .map_err(|refused| refused.refusal)?;
-        Ok(number as usize)
+        Ok(usize::from(number))
     }
 
     fn note(&mut self, at: u16, named: Named, text: &[u8]) -> Result<usize, Refusal>
@@ -233,7 +233,7 @@ impl<R: Rule + Drop> Stage<R> {
             .exchange
             .file(&mut self.stations[at], &memory[..length], text)
             .map_err(|refused| refused.refusal)?;
-        Ok(filing.signers as usize)
+        Ok(usize::from(filing.signers))
     }
 
     // Runs an event line, or what stands for one that is not ended.
