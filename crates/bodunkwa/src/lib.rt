@@ -21,23 +21,20 @@ fn write_digest(pages: &[u8], memory: &mut [u8]) -> Result<(), Refusal>
     ensures memory { memory.new ≡ digest_memory pages.now memory.old }
 {
     admit(pages.len())?;
-    if memory.len() < DIGEST_BYTES {
-        return Err(Refusal::MemoryTooSmall);
-    }
-    memory[0..DIGEST_BYTES].copy_from_slice(&digest(pages).bytes());
+    let front = memory
+        .first_chunk_mut::<DIGEST_BYTES>()
+        .ok_or(Refusal::MemoryTooSmall)?;
+    *front = digest(pages).bytes();
     Ok(())
 }
 
 // The digest of the pages, in the first 32 bytes of the memory: 0 when it is done, 7 where the pages are
-// out of bounds, else 15 where the memory is too small.
+// out of bounds, else 15 where the memory is too small. A number, since C has no Result.
 pub fn bodunkwa_digest(pages: &[u8], memory: &mut [u8]) -> u32
     ensures answer { result ≡ number (digest_answer pages.now memory.old) }
     ensures memory { memory.new ≡ digest_memory pages.now memory.old }
 {
-    match write_digest(pages, memory) {
-        Ok(()) => 0,
-        Err(refusal) => refusal.number() as u32,
-    }
+    write_digest(pages, memory).map_or_else(|refusal| u32::from(refusal.number()), |()| 0)
 }
 
 // Whether the stamp is the statement's under the key. Every wrong length is a no; that of the stamp is asked with its bytes.
@@ -49,9 +46,9 @@ fn checks(key: &[u8], statement: &[u8], stamp: &[u8]) -> bool
         && PreparedKey::new(key).checks(statement, stamp)
 }
 
-// Whether a stamp checks: 1 for yes, 0 for no.
+// Whether a stamp checks: 1 for yes, 0 for no. A number, as the header declares it.
 pub fn bodunkwa_stamp_checks(key: &[u8], statement: &[u8], stamp: &[u8]) -> u32
     ensures { OneWhere (StampChecks key.now statement.now stamp.now) result }
 {
-    if checks(key, statement, stamp) { 1 } else { 0 }
+    u32::from(checks(key, statement, stamp))
 }

@@ -11,7 +11,7 @@ use Rattle.edition.specs.Pages.{most_bytes}
 use Rattle.seal.specs.declared.register.Register.{Register}
 use Rattle.seal.specs.declared.statement.Statement.{Statement}
 use Rattle.seal.specs.Meanings.{Sealed}
-use Rattle.seal.specs.Registers.{Unused, Entered, register}
+use Rattle.seal.specs.Registers.{used, Unused, Entered, register}
 use Rattle.seal.specs.Rows.{row_bytes}
 use Rattle.seal.specs.Statements.{laid_out, statement_bytes}
 use Rattle.seal.specs.RegisterLaws.{register_meant}
@@ -66,26 +66,26 @@ module _ {s : Register} {i : ℕ} {x : Statement} {s' : Register} {m' : List ℕ
 module _ (p q : List ℕ) (e s1 s2 s3 s4 s5 s6 : Register) where
   -- the seals of houses 0, 1, 3, 1, 2 and 3
   abbrev z1 : List ℕ
-  z1 = row_bytes e.used
+  z1 = row_bytes (used e)
 
   abbrev z2 : List ℕ
-  z2 = row_bytes s1.used
+  z2 = row_bytes (used s1)
 
   abbrev z3 : List ℕ
-  z3 = row_bytes s2.used
+  z3 = row_bytes (used s2)
 
   abbrev z4 : List ℕ
-  z4 = row_bytes s3.used
+  z4 = row_bytes (used s3)
 
   abbrev z5 : List ℕ
-  z5 = row_bytes s4.used
+  z5 = row_bytes (used s4)
 
   abbrev z6 : List ℕ
-  z6 = row_bytes s5.used
+  z6 = row_bytes (used s5)
 
   -- the gathering from its start to its close, and its memory
   abbrev g0 : Gathering
-  g0 = record { house = 0; number = 1; digest = digest_of p; gathered = 0 }
+  g0 = record { notice = record { house = 0; number = 1; digest = digest_of p }; gathered = 0 }
 
   abbrev g1 : Gathering
   g1 = with_house g0 0

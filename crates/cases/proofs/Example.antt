@@ -4,14 +4,14 @@ use lib.Count.{ones}
 use lib.Seq.{paste}
 use Rattle.std.proofs.lemmas.Bool.{le-leb}
 use Rattle.bits.specs.Bits.{has}
-use Rattle.refusal.specs.Questions.{whole}
+use Rattle.refusal.specs.Questions.{whole, at_receipt}
 use Rattle.refusal.specs.declared.Refused.{Refused}
 use Rattle.refusal.specs.declared.Refusal.TheVariants.{PagesTooLong, SealFails}
 use Rattle.sha256.specs.Text.{digest_of, bytes32}
 use Rattle.edition.specs.Pages.{most_bytes}
 use Rattle.seal.specs.declared.register.Register.{Register}
 use Rattle.seal.specs.declared.statement.Statement.{Statement}
-use Rattle.seal.specs.Registers.{Unused, Entered, register}
+use Rattle.seal.specs.Registers.{used, Unused, Entered, register}
 use Rattle.seal.specs.Rows.{row_bytes}
 use Rattle.seal.specs.Statements.{laid_out, statement_bytes}
 use Rattle.seal.specs.RegisterLaws.{register_meant}
@@ -21,7 +21,7 @@ use Rattle.exchange.specs.declared.gathering.Closed.{Closed}
 use Rattle.exchange.specs.declared.filing.Filing.{Filing}
 use Rattle.exchange.specs.Stations.{fresh_station}
 use Rattle.exchange.specs.Layout.{head_bytes, bundle_statement}
-use Rattle.exchange.specs.Machine.{statement_of, go_on, at_receipt, receipt_answer, with_house, announce_answer, add_answer, walk, file_answer, file_station}
+use Rattle.exchange.specs.Machine.{statement_of, go_on, receipt_answer, with_house, announce_answer, add_answer, walk, file_answer, file_station}
 use Rattle.exchange.specs.Runs.{Event, announced, noted, started, added, closed, issued, filed, World, open_with, closed_with, gone, opened, at_station, at_gathering, at_seal, Step, Run, Some, Each}
 use Rattle.exchange.specs.Law.{Hands, Fair, Conditions}
 use Rattle.exchange.proofs.Questions.{yes_to}
@@ -41,7 +41,7 @@ bundle_memory = replicate 40 0
 module _ (p : List ℕ) (e s : Register) where
   -- the seal of house 0
   abbrev z : List ℕ
-  z = row_bytes e.used
+  z = row_bytes (used e)
 
   abbrev statement : Statement
   statement = statement_of alone 0 1 (digest_of p)
@@ -55,7 +55,7 @@ module _ (p : List ℕ) (e s : Register) where
 
   -- the gathering at its start, and with the receipt
   abbrev starting : Gathering
-  starting = record { house = 0; number = 1; digest = digest_of p; gathered = 0 }
+  starting = record { notice = record { house = 0; number = 1; digest = digest_of p }; gathered = 0 }
 
   abbrev adding : Gathering
   adding = with_house starting 0

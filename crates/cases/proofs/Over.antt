@@ -1,10 +1,5 @@
--- The law at each rule, over each seal kind.
-use Rattle.witness.specs.declared.all.All.{All}
-use Rattle.witness.specs.declared.rotating.Rotating.{Rotating}
-use Rattle.witness.specs.All.{all_ruling}
-use Rattle.witness.specs.Rotating.{rotating_ruling}
+-- The law of a lawful rule, over each seal kind.
 use Rattle.witness.specs.Rules.{Ruling, Lawful}
-use Rattle.witness.specs.Laws.{all_lawful, rotating_lawful}
 use Rattle.seal.specs.Registers.{register}
 use Rattle.seal.specs.StampKinds.{stamps}
 use Rattle.seal.specs.RegisterLaws.{register_meant}
@@ -13,12 +8,6 @@ use Rattle.exchange.specs.Law.{Law}
 use Rattle.cases.specs.Unused.{LawUnused}
 use Rattle.exchange.proofs.Law.{the_law}
 use Rattle.cases.proofs.Forging.{law_from}
-
-pub all_keeps : (rule : All) → Lawful (all_ruling rule.houses rule.faults)
-all_keeps rule = all_lawful rule.houses rule.faults rule.least rule.most rule.few
-
-pub rotating_keeps : (rule : Rotating) → Lawful (rotating_ruling rule.houses rule.faults)
-rotating_keeps rule = rotating_lawful rule.houses rule.faults rule.least rule.most rule.few
 
 -- a lawful rule over each kind
 module _ {r : Ruling} (lawful : Lawful r) where

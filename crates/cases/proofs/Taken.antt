@@ -14,7 +14,7 @@ use Rattle.seal.specs.declared.statement.Statement.{Statement}
 use Rattle.seal.specs.declared.table.Table.{Table}
 use Rattle.seal.specs.Houses.{most_houses, shares, left_of}
 use Rattle.seal.specs.Meanings.{sign_answer}
-use Rattle.seal.specs.Registers.{Begun, Entered, register}
+use Rattle.seal.specs.Registers.{Begun, Entered, used, register}
 use Rattle.seal.specs.Rows.{row_size, row_bytes}
 use Rattle.seal.specs.RegisterLaws.{register_meant}
 use Rattle.exchange.specs.declared.station.Station.{Station}
@@ -28,7 +28,7 @@ use Rattle.cases.specs.Dishonest.{seal_memory}
 
 -- A house that has a seal left can sign, and its seal is the number of the next row: what holds after that, holds.
 pub signs_next : {P : Type 0} (s : Register) (i : ℕ) (x : Statement) → 0 < register.left s i
-    → ((s' : Register) → Entered s i x seal_memory s' (row_bytes s.used) → P) → P
+    → ((s' : Register) → Entered s i x seal_memory s' (row_bytes (used s)) → P) → P
 signs_next s i x had then =
     let step = register_meant.goes s i x seal_memory had (lit≤ tt) in
     then step.0 (subst (λ (m : List ℕ). Entered s i x seal_memory step.0 m) step.1.1.writes step.1.1)

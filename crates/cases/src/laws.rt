@@ -6,26 +6,30 @@ ghost use Rattle.seal.specs.StampKinds.{stamps};
 ghost use Rattle.witness.specs.All.{all_ruling};
 ghost use Rattle.witness.specs.Rotating.{rotating_ruling};
 
-use witness::{All, Rotating};
+use witness::{All, Rotating, Rule};
 
-// The rule All over a register. Where no row was used at the opening there is no condition on seals.
-pub fn all_over_register(rule: &All)
-    ensures law { Law (all_ruling rule.now.houses rule.now.faults) register }
-    ensures unused { LawUnused (all_ruling rule.now.houses rule.now.faults) }
+// Any rule over a register. Where no row was used at the opening there is no condition on seals.
+pub fn law_over_register<R: Rule>(rule: &R)
+    ensures law { Law (R.Rule.ruling rule.now) register }
+    ensures unused { LawUnused (R.Rule.ruling rule.now) }
 {}
 
-// The rule All over stamps.
-pub fn all_over_stamps(rule: &All)
-    ensures { Law (all_ruling rule.now.houses rule.now.faults) stamps }
+// Any rule over stamps.
+pub fn law_over_stamps<R: Rule>(rule: &R)
+    ensures { Law (R.Rule.ruling rule.now) stamps }
 {}
 
-// The rule Rotating over a register. Where no row was used at the opening there is no condition on seals.
-pub fn rotating_over_register(rule: &Rotating)
-    ensures law { Law (rotating_ruling rule.now.houses rule.now.faults) register }
-    ensures unused { LawUnused (rotating_ruling rule.now.houses rule.now.faults) }
-{}
-
-// The rule Rotating over stamps.
-pub fn rotating_over_stamps(rule: &Rotating)
-    ensures { Law (rotating_ruling rule.now.houses rule.now.faults) stamps }
-{}
+// The rules All and Rotating over a register and over stamps.
+pub fn law_at_both_rules(all: &All, rotating: &Rotating)
+    ensures all_over_register { Law (all_ruling all.now.houses.count all.now.houses.faults) register }
+    ensures all_unused { LawUnused (all_ruling all.now.houses.count all.now.houses.faults) }
+    ensures all_over_stamps { Law (all_ruling all.now.houses.count all.now.houses.faults) stamps }
+    ensures rotating_over_register { Law (rotating_ruling rotating.now.houses.count rotating.now.houses.faults) register }
+    ensures rotating_unused { LawUnused (rotating_ruling rotating.now.houses.count rotating.now.houses.faults) }
+    ensures rotating_over_stamps { Law (rotating_ruling rotating.now.houses.count rotating.now.houses.faults) stamps }
+{
+    law_over_register(all);
+    law_over_stamps(all);
+    law_over_register(rotating);
+    law_over_stamps(rotating);
+}

@@ -11,7 +11,7 @@ use witness::cases_of_rules;
 
 mod laws;
 
-pub use laws::{all_over_register, all_over_stamps, rotating_over_register, rotating_over_stamps};
+pub use laws::{law_at_both_rules, law_over_register, law_over_stamps};
 
 // In every run over a register of which no row was used at the opening, what checks for an honest house was signed by a note of it.
 // Already where no direct sign for an honest house is taken, whatever notices carry.

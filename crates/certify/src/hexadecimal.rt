@@ -21,13 +21,7 @@ impl<'a> Hexadecimal<'a> {
         ensures part { count ≤ length bytes.now → result.bytes.now ≡ take count bytes.now }
         ensures all { length bytes.now < count → result.bytes.now ≡ bytes.now }
     {
-        if count <= bytes.len() {
-            Hexadecimal {
-                bytes: &bytes[0..count],
-            }
-        } else {
-            Hexadecimal { bytes }
-        }
+        Hexadecimal::new(bytes.get(..count).unwrap_or(bytes))
     }
 }
 

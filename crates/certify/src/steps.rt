@@ -1,12 +1,11 @@
 // The steps from the pages to the bundle, each with its line.
 ghost use Rattle.std.specs.Prelude.{◌≡◌, IfOk};
+ghost use Rattle.seal.specs.Registers.{register, used};
 
 use crate::hexadecimal::Hexadecimal;
 use crate::stop::Stop;
-use edition::Number;
-use exchange::{Closed, Exchange, Station};
+use exchange::{Closed, Exchange, Notice, Station};
 use seal::{Register, Seal, Table};
-use sha256::Digest;
 use std::alloc::Global;
 use witness::Rotating;
 
@@ -35,8 +34,8 @@ type FourHouses = Exchange<Rotating, Register>;
 type Seals = [[u8; SEAL_BYTES]; WITNESSES];
 
 pub fn opened(heap: Global) -> Result<FourHouses, Stop>
-    ensures rule { IfOk result (λ x. (x.rule.houses ≡ 4) × (x.rule.faults ≡ 1)) }
-    ensures register { IfOk result (λ x. (x.seal.houses ≡ 4) × (x.seal.used ≡ 0)) }
+    ensures rule { IfOk result (λ x. (x.rule.houses.count ≡ 4) × (x.rule.houses.faults ≡ 1)) }
+    ensures register { IfOk result (λ x. (register.houses x.seal ≡ 4) × (used x.seal ≡ 0)) }
 {
     let rule = Rotating::open(HOUSES, FAULTS)?;
     let register = Register::open(HOUSES, Table::new(heap, ROWS)?)?;
@@ -47,19 +46,12 @@ fn note_all(
     rt: &HostRuntime,
     exchange: &mut FourHouses,
     stations: &mut [Station; WITNESSES],
-    number: Number,
-    digest: Digest,
+    notice: Notice,
 ) -> Result<Seals, Stop> {
     let mut seals = [[0; SEAL_BYTES]; WITNESSES];
-    for house in 0..WITNESSES {
-        exchange.note(
-            &mut stations[house],
-            AUTHOR,
-            number,
-            digest,
-            &mut seals[house],
-        )?;
-        println!(rt; "note {house} {}", Hexadecimal::new(&seals[house]))?;
+    for (station, seal) in stations.iter_mut().zip(&mut seals) {
+        exchange.note(station, notice, seal)?;
+        println!(rt; "note {} {}", station.house(), Hexadecimal::new(seal))?;
     }
     Ok(seals)
 }
@@ -68,15 +60,14 @@ fn note_all(
 fn gather(
     rt: &HostRuntime,
     exchange: &FourHouses,
-    number: Number,
-    digest: Digest,
+    notice: Notice,
     seals: &Seals,
     memory: &mut [u8],
 ) -> Result<Closed, Stop> {
-    let mut gathering = exchange.start(AUTHOR, number, digest)?;
-    println!(rt; "start {AUTHOR} {number}")?;
-    for house in 0..WITNESSES {
-        exchange.add(&mut gathering, house as u8, &seals[house], memory)?;
+    let mut gathering = exchange.start(notice)?;
+    println!(rt; "start {} {}", notice.house, notice.number)?;
+    for (house, seal) in (0..).zip(seals) {
+        exchange.add(&mut gathering, house, seal, memory)?;
         println!(rt; "add {house}")?;
     }
     let closed = exchange.close(gathering)?;
@@ -86,11 +77,16 @@ fn gather(
 
 pub fn certify(rt: &HostRuntime, exchange: &mut FourHouses, pages: &[u8]) -> Result<(), Stop> {
     let mut stations = [Station::open(0)?, Station::open(1)?, Station::open(2)?];
-    let (number, digest) = exchange.announce(&mut stations[AUTHOR as usize], pages)?;
+    let (number, digest) = exchange.announce(&mut stations[usize::from(AUTHOR)], pages)?;
     println!(rt; "announce {AUTHOR} {number} {digest}")?;
-    let seals = note_all(rt, exchange, &mut stations, number, digest)?;
+    let notice = Notice {
+        house: AUTHOR,
+        number,
+        digest,
+    };
+    let seals = note_all(rt, exchange, &mut stations, notice)?;
     let mut memory = [0; BUNDLE_ROOM];
-    let closed = gather(rt, exchange, number, digest, &seals, &mut memory)?;
+    let closed = gather(rt, exchange, notice, &seals, &mut memory)?;
     let length = exchange.issue(closed, &mut memory)?;
     println!(rt; "issue {length}")?;
     println!(rt; "bundle {}", Hexadecimal::front(&memory, length))?;

@@ -2,42 +2,31 @@
 use refusal::{Refusal, Refused};
 use std::alloc::AllocError;
 use std::io;
+use thiserror::Error;
 
-#[derive(Drop)]
+#[derive(Debug, Drop, Error)]
 pub enum Stop {
     // A call was refused.
-    Refused(Refused),
-    // There was no memory, or reading or writing failed.
-    Failed(anyhow::Error),
+    #[error(transparent)]
+    Refused(#[from] Refused),
+    // There was no memory.
+    #[error(transparent)]
+    Memory(#[from] AllocError),
+    // Reading or writing failed.
+    #[error(transparent)]
+    Io(#[from] io::Error),
 }
 
-impl From<Refused> for Stop {
-    fn from(refused: Refused) -> Stop {
-        Stop::Refused(refused)
-    }
-}
-
+// By hand: a refusal becomes one that fell on no receipt, and no variant holds it as it is.
 impl From<Refusal> for Stop {
     fn from(refusal: Refusal) -> Stop {
-        Stop::Refused(Refused::new(refusal))
+        Stop::Refused(refusal.into())
     }
 }
 
-// A gathering that is handed back is of no more use here.
+// By hand: a gathering that is handed back is of no more use here, and no variant holds it.
 impl<T: Drop> From<(Refused, T)> for Stop {
     fn from(back: (Refused, T)) -> Stop {
         Stop::Refused(back.0)
-    }
-}
-
-impl From<AllocError> for Stop {
-    fn from(error: AllocError) -> Stop {
-        Stop::Failed(error.into())
-    }
-}
-
-impl From<io::Error> for Stop {
-    fn from(error: io::Error) -> Stop {
-        Stop::Failed(error.into())
     }
 }

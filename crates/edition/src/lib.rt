@@ -13,7 +13,8 @@ pub use report::Report;
 use sha256::digest;
 use std::fmt;
 
-// An edition's number, from 1 on; 0 stands for none. The one place that names its width, with the constant below.
+// An edition's number, from 1 on. The one place that names its width, with the constant below.
+// A plain integer: number 0 can be asked about, and is refused.
 pub type Number = u16;
 
 // The last number that an edition can have.
@@ -26,14 +27,11 @@ pub const MOST_BYTES: usize = 16_777_216;
 pub fn admit(length: usize) -> Result<(), Refusal>
     ensures { result ≡ admitted length }
 {
-    if length <= MOST_BYTES {
-        Ok(())
-    } else {
-        Err(Refusal::PagesTooLong)
-    }
+    Refusal::PagesTooLong.unless(length <= MOST_BYTES)
 }
 
 // How many blocks are hashed, the padded end included.
+#[tactic(auto, using(sha256::proofs::Padding::padded_blocks))]
 fn blocks_hashed(pages: &[u8]) -> usize
     requires { length pages.now ≤ most_bytes }
     ensures { result ≡ blocks (padded pages.now) }

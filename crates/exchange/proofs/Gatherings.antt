@@ -43,9 +43,9 @@ pub record Untouched (g : ℕ) (h : List Event) : Type 0 where
 module _ {S : Type 0} (r : Ruling) (k : Meaning S) where
   -- x is what the start and the adds of gathering g have made
   pub record Going (g : ℕ) (h : List Event) (s : S) (x : Gathering) : Type 0 where
-    pub inside : x.house < r.houses
-    pub numbered : 0 < x.number
-    pub started_so : (j n : ℕ) (d : Digest) → Some (Starts g j n d) h → (x.house ≡ j) × ((x.number ≡ n) × (x.digest ≡ d))
+    pub inside : x.notice.house < r.houses
+    pub numbered : 0 < x.notice.number
+    pub started_so : (j n : ℕ) (d : Digest) → Some (Starts g j n d) h → (x.notice.house ≡ j) × ((x.notice.number ≡ n) × (x.notice.digest ≡ d))
     pub holds : (i : ℕ) → Some (Adds g i) h → has x.gathered i ≡ 1
     pub gathers : Gathers r k s (gathering_statement r x) 0 (brought g h) x.gathered
 
@@ -57,12 +57,12 @@ module _ {S : Type 0} (r : Ruling) (k : Meaning S) where
 
   pub record Shut (g : ℕ) (h : List Event) (s : S) (x : Gathering) : Type 0 where
     pub held : Open g h s x
-    pub accepted : r.accepts x.house x.number x.gathered ≡ true
+    pub accepted : r.accepts x.notice.house x.notice.number x.gathered ≡ true
 
   pub record Done (g : ℕ) (h : List Event) (s : S) : Type 0 where
     pub made : Gathering
     pub going : Going g h s made
-    pub accepted : r.accepts made.house made.number made.gathered ≡ true
+    pub accepted : r.accepts made.notice.house made.notice.number made.gathered ≡ true
     pub bundle : (m b : List ℕ) → Fed g m h → Some (Issues g b) h → b ≡ made_of r made (brought g h)
 
   abbrev pub State : ℕ → List Event → S → Held → Type 0
@@ -122,7 +122,7 @@ module _ {S : Type 0} (r : Ruling) (k : Meaning S) where
 
   module _ (g : ℕ) (h : List Event) (s : S) where
     begins : (j n : ℕ) (d : Digest) (y : Gathering) → j < r.houses → 0 < n → Untouched g h
-        → Open g (started g j n d (Ok y) ∷ h) s (record { house = j; number = n; digest = d; gathered = 0 })
+        → Open g (started g j n d (Ok y) ∷ h) s (record { notice = record { house = j; number = n; digest = d }; gathered = 0 })
     begins j n d y inside numbered u =
         let empty = u.brought_none in
         record {
@@ -232,7 +232,7 @@ module _ {S : Type 0} (r : Ruling) (k : Meaning S) where
     added_own i z m (Ok t) m' x e left o =
         let set = x.gathered in
         let q1 = asked (ltb i r.houses) (whole NoSuchHouse) _ t (sym e) in
-        let q2 = asked (member (r.named x.house x.number) i) (whole NotNamed) _ t q1.1 in
+        let q2 = asked (member (r.named x.notice.house x.notice.number) i) (whole NotNamed) _ t q1.1 in
         let q3 = asked (not (member set i)) (whole ReceiptRepeated) _ t q2.1 in
         let q4 = asked (eqb (length z) k.size) (whole SealLength) _ t q3.1 in
         let q5 = asked (k.checks s i (gathering_statement r x) z) (whole SealFails) _ t q4.1 in
@@ -247,7 +247,7 @@ module _ {S : Type 0} (r : Ruling) (k : Meaning S) where
     closed_own : (y : Result Closed (Refused × Gathering)) (x : Gathering) → y ≡ close_answer r x → Open g h s x
         → State g (closed g y ∷ h) s (after y closed_with (open_with x))
     closed_own (Ok c) x e o =
-        let q = asked (r.accepts x.house x.number x.gathered) (whole NotAccepted, x) _ c (sym e) in
+        let q = asked (r.accepts x.notice.house x.notice.number x.gathered) (whole NotAccepted, x) _ c (sym e) in
         let is = q.1 in
         subst (λ (v : Closed). Shut g (closed g (Ok c) ∷ h) s v.whole) (cc)
         (record { held = open_keeps g _ h (any_close g g (Ok c)) s s (same_grows k s) x o; accepted = q.0 })

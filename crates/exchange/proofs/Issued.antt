@@ -42,7 +42,7 @@ module _ {S : Type 0} (r : Ruling) (k : Meaning S) (meant : Meant k) (s : S) (x 
       ap (λ (n : ℕ). receipts_from k.size (made_of r x xs) n 0) (counted st c (flat xs) ∙ as_many)
       ∙ reads_flat k.size 0 (made_of r x xs) (head_bytes st c) xs sized long refl
 
-  pub made_fits : (p : List ℕ) → digest_of p ≡ x.digest → x.house < r.houses → r.accepts x.house x.number x.gathered ≡ true → Fit r k s (made_of r x xs)
+  pub made_fits : (p : List ℕ) → digest_of p ≡ x.notice.digest → x.notice.house < r.houses → r.accepts x.notice.house x.notice.number x.gathered ≡ true → Fit r k s (made_of r x xs)
   made_fits p same inside accepted =
       let st = gathering_statement r x in
       let c = ones x.gathered in

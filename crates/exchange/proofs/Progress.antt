@@ -50,13 +50,13 @@ module _ {S : Type 0} (r : Ruling) (k : Meaning S) where
 
   -- a gathering that holds every honest house that is named is accepted
   full_accepted : Lawful r → (honest : ℕ) → Trusted r honest → (g : ℕ) (h : List Event) (s : S) (x : Gathering) → Going r k g h s x
-      → ((i : ℕ) → (i < r.houses) × (has honest i ≡ 1) → has (r.named x.house x.number) i ≡ 1 → Some (Adds g i) h)
-      → r.accepts x.house x.number x.gathered ≡ true
+      → ((i : ℕ) → (i < r.houses) × (has honest i ≡ 1) → has (r.named x.notice.house x.notice.number) i ≡ 1 → Some (Adds g i) h)
+      → r.accepts x.notice.house x.notice.number x.gathered ≡ true
   full_accepted law honest trusted g h s x going all =
-      let named = r.named x.house x.number in
-      all_honest law x.house x.number honest trusted x.gathered going.inside going.numbered
+      let named = r.named x.notice.house x.notice.number in
+      all_honest law x.notice.house x.notice.number honest trusted x.gathered going.inside going.numbered
       (all_held (bit_and honest named) x.gathered (λ i e. let both = has_each honest named i e in
-      going.holds i (all i (law.below x.house x.number i both.1, both.0) both.1)))
+      going.holds i (all i (law.below x.notice.house x.notice.number i both.1, both.0) both.1)))
 
   -- a station that stands one number below, and pages of the bundle's digest
   due_when : (x : Station) (b p : List ℕ) (j n last : ℕ) → x.house < r.houses → length p ≤ most_bytes → bundle_house b ≡ j → bundle_number b ≡ n
@@ -120,7 +120,7 @@ module _ {S : Type 0} (r : Ruling) (k : Meaning S) where
         let going : Going r k g h w.seal x = (subst (State r k g h w.seal) step.1 (stand g)).going in
         let so = going.started_so j n d begun in
         let accepted = full_accepted law honest trusted g h w.seal x going (λ i ok named. all i ok (subst₂ (λ (a b : ℕ). has (r.named a b) i ≡ 1) so.0 so.1.0 named)) in
-        subst (λ (v : Result Closed (Refused × Gathering)). Taken v) (sym (step.2 ∙ yes_to (r.accepts x.house x.number x.gathered) (whole NotAccepted, x) (Ok (record { whole = x })) accepted)) tt
+        subst (λ (v : Result Closed (Refused × Gathering)). Taken v) (sym (step.2 ∙ yes_to (r.accepts x.notice.house x.notice.number x.gathered) (whole NotAccepted, x) (Ok (record { whole = x })) accepted)) tt
 
     pub reads_back : (g : ℕ) (m b : List ℕ) → Some (Issues g b) h → Fed g m h → receipts_in k.size b ≡ brought g h
     reads_back g m b out fed =
@@ -142,7 +142,7 @@ module _ {S : Type 0} (r : Ruling) (k : Meaning S) where
           let rest = flat (brought g h) in
           let is : b ≡ made_of r x (brought g h) = done.bundle m b fed out in
           let so = going.started_so j n d begun in
-          let digest : digest_of p ≡ x.digest = same ∙ sym so.1.1 in
+          let digest : digest_of p ≡ x.notice.digest = same ∙ sym so.1.1 in
           let fit = made_fits r k meant w.seal x (brought g h) going.gathers p digest going.inside done.accepted in
           files w a b p y w' (subst (Fit r k w.seal) (sym is) fit)
           (due_when (w.stations a) b p j n _ (omega (arith, same-house a, ok.0)) within

@@ -7,10 +7,18 @@ use Rattle.exchange.specs.Machine.{go_on}
 pub refused_not_taken : {A E : Type 0} (e : E) (x : A) → ◌≡◌ {A = Result A E} (Err e) (Ok x) → ⊥
 refused_not_taken e x h = let z : ◌≡◌ {A = ℕ} 0 1 = cc in omega arith
 
+refused_alike : {A E : Type 0} (e f : E) → ◌≡◌ {A = Result A E} (Err e) (Err f) → f ≡ e
+refused_alike e f h = cc
+
 -- a taken chain had a yes, and went on
 pub asked : {A E : Type 0} (holds : Bool) (e : E) (rest : Result A E) (x : A) → ask holds e rest ≡ Ok x → (holds ≡ true) × (rest ≡ Ok x)
 asked true e rest x taken = (refl, taken)
 asked false e rest x taken = absurd (refused_not_taken e x taken)
+
+-- one question that refused had a no
+pub denied : {A E : Type 0} (holds : Bool) (e : E) (x : A) (f : E) → ask holds e (Ok x) ≡ Err f → (holds ≡ false) × (f ≡ e)
+denied true e x f refused = absurd (refused_not_taken f x (sym refused))
+denied false e x f refused = (refl, refused_alike e f refused)
 
 -- a yes goes on
 pub yes_to : {A E : Type 0} (holds : Bool) (e : E) (rest : Result A E) → holds ≡ true → ask holds e rest ≡ rest

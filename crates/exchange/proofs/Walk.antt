@@ -1,5 +1,8 @@
 -- Laws of the walk over a bundle's receipts, one receipt at a time.
-use Rattle.std.proofs.Common.{◌≡◌, ℕ, suc, ◌+◌, ◌-◌, ◌^◌, ◌<◌, ◌≤◌, true, not, ltb, List, Ok, Err, Result, refl, ap, ◌∙◌, ap₂, mul-le-mul_right, arith}
+use Rattle.std.proofs.Common.{◌≡◌, ℕ, suc, ◌+◌, ◌-◌, ◌*◌, ◌^◌, ◌<◌, ◌≤◌, true, not, ltb, List, ◌++◌, length, get_or, get_or-take, take, drop, length-drop, Ok, Err, Result, sym, refl, ap, ◌∙◌, ap₂, subst, ⊎_elim, mul-le-mul_right, arith}
+use Rattle.std.proofs.Math.Seq.{take-append_seam, drop-append_seam}
+use Rattle.std.proofs.lemmas.List.{get_or-drop, take_rest, drop-take, drop-drop}
+use Rattle.std.proofs.lemmas.Bool.{cases_lt}
 use lib.Bits.{bit_or}
 use Rattle.refusal.specs.declared.Refused.{Refused}
 use Rattle.refusal.specs.declared.Refusal.TheVariants.{NoSuchHouse, NotNamed, ReceiptRepeated, SealFails}
@@ -8,11 +11,15 @@ use Rattle.seal.specs.declared.statement.Statement.{Statement}
 use Rattle.seal.specs.Meanings.{Meaning}
 use Rattle.exchange.specs.Layout.{receipt_at, receipt_house, receipt_seal, bundle_statement}
 use Rattle.exchange.proofs.Questions.{asked, yes_to}
-use Rattle.exchange.specs.Machine.{member, go_on, at_receipt, receipt_answer, walk}
+use Rattle.refusal.specs.Questions.{at_receipt}
+use Rattle.exchange.specs.Machine.{member, go_on, receipt_answer, walk}
 
 -- the receipts before a place lie before the receipts' end
 pub place_within : (size i n : ℕ) → i < n → receipt_at size (i + 1) ≤ receipt_at size n
 place_within size i n h = omega (arith, mul-le-mul_right {m = i + 1} {n = n} (1 + size) (omega arith))
+
+right_distrib : (a b c : ℕ) → (a + b) * c ≡ a * c + b * c
+right_distrib a b c = omega arith
 
 module _ {S : Type 0} (r : Ruling) (k : Meaning S) where
   -- a receipt for statement x, after those of the houses in `met`
@@ -66,10 +73,33 @@ module _ {S : Type 0} (r : Ruling) (k : Meaning S) (s : S) (b : List ℕ) where
       left ∙ ap (λ (m : ℕ). walk r k s b m i met) one_more ∙ walk_more (n - (i + 1)) i met
       ∙ ap (λ (y : Result ℕ Refused). go_on y (λ x. walk r k s b (n - (i + 1)) (i + 1) x)) refused
 
-  -- what is read of the bundle is what this turn asks about
-  pub this_from : (x : Statement) (size house i met : ℕ) (seal : List ℕ) → x ≡ bundle_statement b → size ≡ k.size
-      → house ≡ receipt_house size b i → seal ≡ receipt_seal size b i → receipt_answer r k s x (i + 1) house seal met ≡ this i met
-  this_from x size house i met seal ex es eh ez =
-      ap (λ (y : Statement). receipt_answer r k s y (i + 1) house seal met) ex
-      ∙ ap₂ (λ (h : ℕ) (z : List ℕ). receipt_answer r k s (bundle_statement b) (i + 1) h z met)
-      (eh ∙ ap (λ (n : ℕ). receipt_house n b i) es) (ez ∙ ap (λ (n : ℕ). receipt_seal n b i) es)
+  -- the receipt before what is left of a bundle, and what is left after it
+  next_receipt : (i : ℕ) (left v rest : List ℕ) → left ≡ drop (receipt_at k.size i) b → left ≡ v ++ rest → length v ≡ 1 + k.size
+      → (get_or v 0 0 ≡ receipt_house k.size b i) × (take (length v - 1) (drop 1 v) ≡ receipt_seal k.size b i) × (rest ≡ drop (receipt_at k.size (i + 1)) b)
+  next_receipt i left v rest from parts long =
+      let at = receipt_at k.size i in
+      let whole : v ++ rest ≡ drop at b = sym parts ∙ from in
+      let front : v ≡ take (1 + k.size) (drop at b) = sym (take-append_seam v rest) ∙ ap₂ (λ (n : ℕ) (l : List ℕ). take n l) long whole in
+      let front_of : at + 0 ≡ at = omega arith in
+      let after : at + (1 + k.size) ≡ receipt_at k.size (i + 1) = omega (arith, right_distrib i 1 (1 + k.size)) in (
+        ap (λ (l : List ℕ). get_or l 0 0) front ∙ get_or-take (1 + k.size) (drop at b) 0 0 (omega arith) ∙ get_or-drop at b 0 0 ∙ ap (λ (n : ℕ). get_or b n 0) front_of,
+        take_rest v 1 ∙ ap (λ (l : List ℕ). drop 1 l) front ∙ drop-take 1 k.size (drop at b) ∙ ap (λ (l : List ℕ). take k.size l) (drop-drop 1 at b),
+        sym (drop-append_seam v rest) ∙ ap₂ (λ (n : ℕ) (l : List ℕ). drop n l) long whole ∙ drop-drop (1 + k.size) at b ∙ ap (λ (n : ℕ). drop n b) after,
+      )
+
+  -- what is read there is what this turn asks about
+  pub this_from : (x : Statement) (j i met : ℕ) (left v rest : List ℕ) → x ≡ bundle_statement b → j ≡ i → left ≡ drop (receipt_at k.size i) b → left ≡ v ++ rest → length v ≡ 1 + k.size
+      → receipt_answer r k s x (j + 1) (get_or v 0 0) (take (length v - 1) (drop 1 v)) met ≡ this i met
+  this_from x j i met left v rest ex ej from parts long =
+      let receipt = next_receipt i left v rest from parts long in
+      ap₂ (λ (y : Statement) (n : ℕ). receipt_answer r k s y (n + 1) (get_or v 0 0) (take (length v - 1) (drop 1 v)) met) ex ej
+      ∙ ap₂ (λ (h : ℕ) (z : List ℕ). receipt_answer r k s (bundle_statement b) (i + 1) h z met) receipt.0 receipt.1
+
+  pub left_after : (i : ℕ) (left v rest : List ℕ) → left ≡ drop (receipt_at k.size i) b → left ≡ v ++ rest → length v ≡ 1 + k.size → rest ≡ drop (receipt_at k.size (i + 1)) b
+  left_after i left v rest from parts long = (next_receipt i left v rest from parts long).2
+
+  -- where no receipt is left, all are taken
+  pub none_left : (n i : ℕ) (left : List ℕ) → length b ≡ receipt_at k.size n → left ≡ drop (receipt_at k.size i) b → length left < 1 + k.size → n - i ≡ 0
+  none_left n i left sized from short =
+      let few : length (drop (receipt_at k.size i) b) < 1 + k.size = subst (λ (l : List ℕ). length l < 1 + k.size) from short in
+      ⊎_elim (λ inside. absurd (omega (arith, few, sized, length-drop (receipt_at k.size i) b, place_within k.size i n inside, right_distrib i 1 (1 + k.size)))) (λ past. omega arith) (cases_lt i n)

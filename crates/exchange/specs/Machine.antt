@@ -2,7 +2,7 @@
 use Rattle.std.specs.Prelude.{ℕ, zero, suc, ◌+◌, ◌^◌, Bool, not, List, length, Ok, Err, Result, ◌==◌, bit_or, count_ones, nat_le, nat_lt}
 use Rattle.std.proofs.Math.Seq.{paste}
 use Rattle.bits.specs.Bits.{has}
-use Rattle.refusal.specs.Questions.{ask, after, whole}
+use Rattle.refusal.specs.Questions.{ask, after, whole, at_receipt}
 use Rattle.refusal.specs.declared.Refused.{Refused}
 use Rattle.refusal.specs.declared.Refusal.{Refusal}
 use Rattle.refusal.specs.declared.Refusal.TheVariants.{StationHouse, NumbersUsedUp, WindowFull, PagesTooLong, NoSuchHouse, NumberPast, NumberAhead, NotNamed, AlreadyNoted, OtherDigestNoted, MemoryTooSmall, ReceiptRepeated, SealLength, SealFails, NotAccepted, BundleTooShort, OtherRule, OtherPages, BundleLength}
@@ -80,16 +80,16 @@ abbrev pub start_answer : Ruling → ℕ → ℕ → Digest → Result Gathering
 start_answer r j k d =
     ask (nat_lt j r.houses) (whole NoSuchHouse)
     (ask (nat_le 1 k) (whole NumberPast)
-    (Ok (record { house = j; number = k; digest = d; gathered = 0 })))
+    (Ok (record { notice = record { house = j; number = k; digest = d }; gathered = 0 })))
 
 abbrev pub gathering_statement : Ruling → Gathering → Statement
-gathering_statement r g = statement_of r g.house g.number g.digest
+gathering_statement r g = statement_of r g.notice.house g.notice.number g.notice.digest
 
 -- add
 abbrev pub add_answer : {S : Type 0} → Ruling → Meaning S → S → Gathering → ℕ → List ℕ → ℕ → Result (Unit {0}) Refused
 add_answer r kind s g i seal room =
     ask (nat_lt i r.houses) (whole NoSuchHouse)
-    (ask (member (r.named g.house g.number) i) (whole NotNamed)
+    (ask (member (r.named g.notice.house g.notice.number) i) (whole NotNamed)
     (ask (not (member g.gathered i)) (whole ReceiptRepeated)
     (ask (length seal == kind.size) (whole SealLength)
     (ask (kind.checks s i (gathering_statement r g) seal) (whole SealFails)
@@ -98,7 +98,7 @@ add_answer r kind s g i seal room =
 
 -- the house is gathered
 abbrev pub with_house : Gathering → ℕ → Gathering
-with_house g i = record { house = g.house; number = g.number; digest = g.digest; gathered = bit_or g.gathered (2 ^ i) }
+with_house g i = record { notice = g.notice; gathered = bit_or g.gathered (2 ^ i) }
 
 abbrev pub add_gathering : {S : Type 0} → Ruling → Meaning S → S → Gathering → ℕ → List ℕ → ℕ → Gathering
 add_gathering r kind s g i seal room = after (add_answer r kind s g i seal room) (λ _. with_house g i) g
@@ -111,7 +111,7 @@ add_memory r kind s g i seal m =
 
 -- close: a refusal hands the gathering back
 abbrev pub close_answer : Ruling → Gathering → Result Closed (Refused × Gathering)
-close_answer r g = ask (r.accepts g.house g.number g.gathered) (whole NotAccepted, g) (Ok (record { whole = g }))
+close_answer r g = ask (r.accepts g.notice.house g.notice.number g.gathered) (whole NotAccepted, g) (Ok (record { whole = g }))
 
 -- issue: a refusal hands the closed gathering back
 abbrev pub issue_answer : {S : Type 0} → Meaning S → Closed → ℕ → Result ℕ (Refused × Closed)
@@ -124,10 +124,6 @@ abbrev pub issue_memory : {S : Type 0} → Ruling → Meaning S → Closed → L
 issue_memory r kind c m =
     after (issue_answer kind c (length m))
     (λ _. paste m 0 (head_bytes (gathering_statement r c.whole) (count_ones c.whole.gathered)) head_length) m
-
--- a refusal that fell on the receipt at a place, places counted from 1
-abbrev pub at_receipt : Refusal → ℕ → Refused
-at_receipt refusal place = record { refusal = refusal; place = place }
 
 -- one receipt at a place of a bundle with statement x, after those of the houses in `met`: the set with its house
 abbrev pub receipt_answer : {S : Type 0} → Ruling → Meaning S → S → Statement → ℕ → ℕ → List ℕ → ℕ → Result ℕ Refused

@@ -1,17 +1,15 @@
 -- Stations, rows and slots.
-use Rattle.std.specs.Prelude.{ℕ, ◌+◌, ◌-◌, Bool, true, false, ◌&&◌, [], ◌∷◌, replicate, Ok, Result, ◌==◌, nat_lt, slice_index, slice_index_or, slice_set}
+use Rattle.std.specs.Prelude.{ℕ, ◌+◌, ◌-◌, Bool, true, false, ◌&&◌, [], ◌∷◌, replicate, Option, None, Some, Ok, Result, ◌==◌, nat_lt, slice_index, slice_index_or, slice_set}
 use Rattle.refusal.specs.Questions.{ask, whole}
 use Rattle.refusal.specs.declared.Refused.{Refused}
 use Rattle.refusal.specs.declared.Refusal.TheVariants.{StationHouse}
 use Rattle.sha256.specs.declared.value.Digest.{Digest}
-use Rattle.exchange.specs.declared.station.Slot.{Slot}
-use Rattle.exchange.specs.declared.station.Slot.TheVariants.{Empty, Holds}
 use Rattle.exchange.specs.declared.station.Row.{Row}
 use Rattle.exchange.specs.declared.station.Station.{Station}
 
 -- a row of which nothing is filed or noted
 abbrev pub fresh_row : Row
-fresh_row = record { last = 0; slots = Empty ∷ Empty ∷ Empty ∷ Empty ∷ [] }
+fresh_row = record { last = 0; slots = None ∷ None ∷ None ∷ None ∷ [] }
 
 -- a house's station at its opening
 abbrev pub fresh_station : ℕ → Station
@@ -26,8 +24,8 @@ abbrev pub row_of : Station → ℕ → Row
 row_of s j = slice_index_or s.rows j (record { last = 0; slots = [] })
 
 -- the slot of number k, which is above the last number filed
-abbrev pub slot_of : Row → ℕ → Slot
-slot_of row k = slice_index_or row.slots (k - row.last - 1) Empty
+abbrev pub slot_of : Row → ℕ → Option Digest
+slot_of row k = slice_index_or row.slots (k - row.last - 1) None
 
 -- the same four words
 abbrev pub same_digest : Digest → Digest → Bool
@@ -35,25 +33,25 @@ same_digest x y =
     (slice_index x.words 0 == slice_index y.words 0) && slice_index x.words 1 == slice_index y.words 1
     && slice_index x.words 2 == slice_index y.words 2 && slice_index x.words 3 == slice_index y.words 3
 
-abbrev pub is_empty : Slot → Bool
-is_empty Empty = true
-is_empty (Holds x) = false
+abbrev pub is_empty : Option Digest → Bool
+is_empty None = true
+is_empty (Some x) = false
 
 -- empty, or holding this very digest
-abbrev pub free_of_other : Slot → Digest → Bool
-free_of_other Empty d = true
-free_of_other (Holds x) d = same_digest x d
+abbrev pub free_of_other : Option Digest → Digest → Bool
+free_of_other None d = true
+free_of_other (Some x) d = same_digest x d
 
 -- number k noted with a digest
 abbrev pub noted_row : Row → ℕ → Digest → Row
-noted_row row k d = record { last = row.last; slots = slice_set row.slots (k - row.last - 1) (Holds d) }
+noted_row row k d = record { last = row.last; slots = slice_set row.slots (k - row.last - 1) (Some d) }
 
 -- the next number filed: the slots move down by one, and the fourth is empty
 abbrev pub filed_row : Row → Row
 filed_row row =
     record {
       last = row.last + 1;
-      slots = slice_index_or row.slots 1 Empty ∷ slice_index_or row.slots 2 Empty ∷ slice_index_or row.slots 3 Empty ∷ Empty ∷ [];
+      slots = slice_index_or row.slots 1 None ∷ slice_index_or row.slots 2 None ∷ slice_index_or row.slots 3 None ∷ None ∷ [];
     }
 
 -- another row for house j, and nothing else

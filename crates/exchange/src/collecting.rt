@@ -1,55 +1,36 @@
 // Collecting receipts: start, add, close and issue.
 ghost use Rattle.std.specs.Prelude.{◌≡◌, ◌≤◌, length, count_ones};
-ghost use Rattle.exchange.specs.Machine.{start_answer, gathering_statement, add_answer, add_gathering, add_memory, close_answer, issue_answer, issue_memory};
+ghost use Rattle.exchange.specs.Machine.{start_answer, add_answer, add_gathering, add_memory, close_answer, issue_answer, issue_memory};
 
-use crate::announcing::is_member;
 use crate::gathering::{Closed, Gathering};
 use crate::layout::{receipt_at, write_head, write_receipt};
+use crate::notice::Notice;
 use crate::opening::Exchange;
-use edition::Number;
 use refusal::{Refusal, Refused};
-use seal::{Seal, Statement};
-use sha256::Digest;
+use seal::Seal;
 use witness::Rule;
 
 impl Gathering {
     // How many receipts are gathered.
-    fn count(&self) -> usize
+    fn count(&self) -> u8
         ensures value { result ≡ count_ones self.now.gathered }
         ensures bound { result ≤ 16 }
     {
-        self.gathered.count_ones() as usize
+        self.gathered.count_ones() as u8
     }
 }
 
 impl<R: Rule, S: Seal> Exchange<R, S> {
     // A gathering without receipts.
-    pub fn start(&self, house: u8, number: Number, digest: Digest) -> Result<Gathering, Refused>
-        ensures { result ≡ start_answer (R.Rule.ruling self.now.rule) house number digest }
+    pub fn start(&self, notice: Notice) -> Result<Gathering, Refused>
+        ensures { result ≡ start_answer (R.Rule.ruling self.now.rule) notice.house notice.number notice.digest }
     {
-        if house >= self.rule.houses() {
-            return Err(Refused::new(Refusal::NoSuchHouse));
-        }
-        if number == 0 {
-            return Err(Refused::new(Refusal::NumberPast));
-        }
+        Refusal::NoSuchHouse.unless(self.has(notice.house))?;
+        Refusal::NumberPast.unless(notice.number > 0)?;
         Ok(Gathering {
-            house,
-            number,
-            digest,
+            notice,
             gathered: 0,
         })
-    }
-
-    fn statement(&self, gathering: &Gathering) -> Statement
-        ensures { result ≡ gathering_statement (R.Rule.ruling self.now.rule) gathering.now }
-    {
-        Statement {
-            mark: self.rule.mark(),
-            house: gathering.house,
-            number: gathering.number,
-            digest: gathering.digest,
-        }
     }
 
     // One receipt more, written after the earlier ones.
@@ -64,27 +45,13 @@ impl<R: Rule, S: Seal> Exchange<R, S> {
         ensures gathering { gathering.new ≡ add_gathering (R.Rule.ruling self.now.rule) S.Seal.meaning self.now.seal gathering.old house seal.now (length memory.old) }
         ensures memory { memory.new ≡ add_memory (R.Rule.ruling self.now.rule) S.Seal.meaning self.now.seal gathering.old house seal.now memory.old }
     {
-        if house >= self.rule.houses() {
-            return Err(Refused::new(Refusal::NoSuchHouse));
-        }
-        if !is_member(self.rule.named(gathering.house, gathering.number), house) {
-            return Err(Refused::new(Refusal::NotNamed));
-        }
-        if is_member(gathering.gathered, house) {
-            return Err(Refused::new(Refusal::ReceiptRepeated));
-        }
+        let statement = self.statement(gathering.notice);
+        self.admits(statement, house, gathering.gathered)?;
         let size = S::seal_len();
-        if seal.len() != size {
-            return Err(Refused::new(Refusal::SealLength));
-        }
-        let statement = self.statement(gathering);
-        if !self.seal.check(house, statement, seal) {
-            return Err(Refused::new(Refusal::SealFails));
-        }
-        let count = gathering.count();
-        if memory.len() < receipt_at(size, count + 1) {
-            return Err(Refused::new(Refusal::MemoryTooSmall));
-        }
+        Refusal::SealLength.unless(seal.len() == size)?;
+        Refusal::SealFails.unless(self.seal.check(house, statement, seal))?;
+        let count = u16::from(gathering.count());
+        Refusal::MemoryTooSmall.unless(receipt_at(size, count + 1) <= memory.len())?;
         write_receipt(memory, receipt_at(size, count), house, seal);
         gathering.gathered |= 1 << house;
         Ok(())
@@ -94,10 +61,9 @@ impl<R: Rule, S: Seal> Exchange<R, S> {
     pub fn close(&self, gathering: Gathering) -> Result<Closed, (Refused, Gathering)>
         ensures { result ≡ close_answer (R.Rule.ruling self.now.rule) gathering }
     {
-        if !self
-            .rule
-            .accepts(gathering.house, gathering.number, gathering.gathered)
-        {
+        let Notice { house, number, .. } = gathering.notice;
+        // An `if`, as below: a refusal hands back what `unless` would not carry.
+        if !self.rule.accepts(house, number, gathering.gathered) {
             return Err((Refused::new(Refusal::NotAccepted), gathering));
         }
         Ok(Closed { whole: gathering })
@@ -109,11 +75,11 @@ impl<R: Rule, S: Seal> Exchange<R, S> {
         ensures memory { memory.new ≡ issue_memory (R.Rule.ruling self.now.rule) S.Seal.meaning closed memory.old }
     {
         let count = closed.whole.count();
-        let length = receipt_at(S::seal_len(), count);
+        let length = receipt_at(S::seal_len(), u16::from(count));
         if memory.len() < length {
             return Err((Refused::new(Refusal::MemoryTooSmall), closed));
         }
-        write_head(memory, self.statement(&closed.whole), count as u8);
+        write_head(memory, self.statement(closed.whole.notice), count);
         Ok(length)
     }
 }

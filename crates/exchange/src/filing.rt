@@ -6,7 +6,7 @@ use sha256::Digest;
 pub struct Filing {
     // The house that files.
     pub station: u8,
-    // The house whose edition it is.
+    // The house whose edition it is. With number and digest no Notice: no call takes them on, and the law names them one by one.
     pub house: u8,
     pub number: Number,
     pub digest: Digest,

@@ -1,14 +1,14 @@
 // Filing: the head's questions, the receipts in their order, and the row of the edition's house.
-ghost use Rattle.std.specs.Prelude.{◌≡◌, ◌+◌, ◌<◌, ◌≤◌, length, Ok, Err, MatchResult};
+ghost use Rattle.std.specs.Prelude.{◌≡◌, ◌^◌, not, length, Ok, Err, MatchResult, bit_or, nat_lt};
+ghost use Rattle.refusal.specs.Questions.{ask};
+ghost use Rattle.refusal.specs.declared.Refusal.TheVariants.{NoSuchHouse, NotNamed, ReceiptRepeated, SealFails};
 ghost use Rattle.exchange.specs.Layout.{receipt_at, bundle_statement, bundle_count};
-ghost use Rattle.exchange.specs.Machine.{receipt_answer, walk, file_questions, file_answer, file_station};
+ghost use Rattle.exchange.specs.Machine.{member, receipt_answer, walk, file_questions, file_answer, file_station};
 
-use crate::announcing::is_member;
 use crate::filing::Filing;
-use crate::layout::receipt_at;
+use crate::layout::{HEAD_BYTES, receipt_at};
 use crate::opening::Exchange;
-use crate::reading::{Head, part_head, receipt_from};
-use crate::rows::same;
+use crate::reading::{Head, part_head};
 use crate::station::Station;
 use edition::admit;
 use refusal::{Refusal, Refused};
@@ -18,40 +18,37 @@ use witness::Rule;
 
 impl<R: Rule, S: Seal> Exchange<R, S> {
     // All that is asked before the receipts; the head where every answer is yes.
+    #[tactic(auto, unfolding(crate::specs::Machine::file_questions, crate::specs::Layout::bundle_statement))]
     fn parted(&self, station: &Station, bundle: &[u8], pages: &[u8]) -> Result<Head, Refused>
         ensures { MatchResult result (λ h. (file_questions (R.Rule.ruling self.now.rule) S.Seal.meaning station.now bundle.now pages.now ≡ Ok tt) × (h.statement ≡ bundle_statement bundle.now) × (h.count ≡ bundle_count bundle.now)) (λ e. file_questions (R.Rule.ruling self.now.rule) S.Seal.meaning station.now bundle.now pages.now ≡ Err e) }
     {
-        if station.house >= self.rule.houses() {
-            return Err(Refused::new(Refusal::StationHouse));
-        }
+        Refusal::StationHouse.unless(self.has(station.house))?;
         admit(pages.len())?;
-        let Some(head) = part_head(bundle) else {
-            return Err(Refused::new(Refusal::BundleTooShort));
-        };
+        let head = part_head(bundle).ok_or(Refusal::BundleTooShort)?;
         let statement = head.statement;
-        if statement.mark != self.rule.mark() {
-            return Err(Refused::new(Refusal::OtherRule));
-        }
-        if statement.house >= self.rule.houses() {
-            return Err(Refused::new(Refusal::NoSuchHouse));
-        }
-        let last = station.rows[statement.house as usize].last;
-        if statement.number <= last {
-            return Err(Refused::new(Refusal::NumberPast));
-        }
-        if statement.number - last != 1 {
-            return Err(Refused::new(Refusal::NumberAhead));
-        }
-        if !same(statement.digest, digest(pages)) {
-            return Err(Refused::new(Refusal::OtherPages));
-        }
-        if bundle.len() != receipt_at(S::seal_len(), head.count as usize) {
-            return Err(Refused::new(Refusal::BundleLength));
-        }
+        Refusal::OtherRule.unless(statement.mark == self.rule.mark())?;
+        Refusal::NoSuchHouse.unless(self.has(statement.house))?;
+        station.rows[usize::from(statement.house)].is_next(statement.number)?;
+        Refusal::OtherPages.unless(statement.digest == digest(pages))?;
+        let length = receipt_at(S::seal_len(), u16::from(head.count));
+        Refusal::BundleLength.unless(bundle.len() == length)?;
         Ok(head)
     }
 
-    // One receipt, after those of the houses in `met`: the set with its house.
+    // The set of the houses in `met` with a house more, whose receipt is one for the statement.
+    fn joined(&self, statement: Statement, house: u8, seal: &[u8], met: u16) -> Result<u16, Refusal>
+        ensures { result ≡ ask (nat_lt house (R.Rule.ruling self.now.rule).houses) NoSuchHouse
+            (ask (member ((R.Rule.ruling self.now.rule).named statement.house statement.number) house) NotNamed
+            (ask (not (member met house)) ReceiptRepeated
+            (ask (S.Seal.meaning.checks self.now.seal house statement seal.now) SealFails
+            (Ok (bit_or met (2 ^ house)))))) }
+    {
+        self.admits(statement, house, met)?;
+        Refusal::SealFails.unless(self.seal.check(house, statement, seal))?;
+        Ok(met | 1 << house)
+    }
+
+    // The same for the receipt at a place, which a refusal names.
     fn take(
         &self,
         statement: Statement,
@@ -62,31 +59,19 @@ impl<R: Rule, S: Seal> Exchange<R, S> {
     ) -> Result<u16, Refused>
         ensures { result ≡ receipt_answer (R.Rule.ruling self.now.rule) S.Seal.meaning self.now.seal statement place house seal.now met }
     {
-        if house >= self.rule.houses() {
-            return Err(Refused::at(Refusal::NoSuchHouse, place));
-        }
-        if !is_member(self.rule.named(statement.house, statement.number), house) {
-            return Err(Refused::at(Refusal::NotNamed, place));
-        }
-        if is_member(met, house) {
-            return Err(Refused::at(Refusal::ReceiptRepeated, place));
-        }
-        if !self.seal.check(house, statement, seal) {
-            return Err(Refused::at(Refusal::SealFails, place));
-        }
-        Ok(met | 1 << house)
+        self.joined(statement, house, seal, met)
+            .map_err(|refusal| Refused::at(refusal, place))
     }
 
     // The houses of a bundle's receipts, which are taken in their order; the first fault ends it.
-    fn signers(&self, bundle: &[u8], statement: Statement, count: u8) -> Result<u16, Refused>
-        requires { (statement ≡ bundle_statement bundle.now) × (length bundle.now ≡ receipt_at S.Seal.meaning.size count) }
-        ensures { result ≡ walk (R.Rule.ruling self.now.rule) S.Seal.meaning self.now.seal bundle.now count 0 0 }
+    fn signers(&self, bundle: &[u8], head: Head) -> Result<u16, Refused>
+        requires { (head.statement ≡ bundle_statement bundle.now) × (length bundle.now ≡ receipt_at S.Seal.meaning.size head.count) }
+        ensures { result ≡ walk (R.Rule.ruling self.now.rule) S.Seal.meaning self.now.seal bundle.now head.count 0 0 }
     {
-        let size = S::seal_len();
+        let receipts = bundle[HEAD_BYTES..].chunks_exact(1 + S::seal_len());
         let mut met = 0;
-        for i in 0..count {
-            let receipt = receipt_from(bundle, size, i as usize);
-            met = self.take(statement, i + 1, receipt.house, receipt.seal, met)?;
+        for (i, receipt) in (0..head.count).zip(receipts) {
+            met = self.take(head.statement, i + 1, receipt[0], &receipt[1..], met)?;
         }
         Ok(met)
     }
@@ -111,12 +96,9 @@ impl<R: Rule, S: Seal> Exchange<R, S> {
     {
         let head = self.parted(station, bundle, pages)?;
         let statement = head.statement;
-        let signers = self.signers(bundle, statement, head.count)?;
-        if !self.accepted(statement, signers) {
-            return Err(Refused::new(Refusal::NotAccepted));
-        }
-        let row = &mut station.rows[statement.house as usize];
-        row.file(statement.number);
+        let signers = self.signers(bundle, head)?;
+        Refusal::NotAccepted.unless(self.accepted(statement, signers))?;
+        station.rows[usize::from(statement.house)].file(statement.number);
         Ok(Filing {
             station: station.house,
             house: statement.house,

@@ -2,7 +2,7 @@
 ghost use Rattle.std.specs.Prelude.{◌≡◌};
 ghost use Rattle.exchange.specs.Stations.{open_station};
 
-use crate::station::{Row, Slot, Station};
+use crate::station::{Row, Station};
 use edition::Number;
 use refusal::{Refusal, Refused};
 
@@ -14,12 +14,10 @@ impl Station {
     pub fn open(house: u8) -> Result<Station, Refused>
         ensures { result ≡ open_station house }
     {
-        if house >= ROWS {
-            return Err(Refused::new(Refusal::StationHouse));
-        }
+        Refusal::StationHouse.unless(house < ROWS)?;
         let row = Row {
             last: 0,
-            slots: [Slot::Empty; 4],
+            slots: [None; 4],
         };
         Ok(Station {
             house,

@@ -1,13 +1,10 @@
 // The states of a gathering of receipts. They move and are never copied.
-use edition::Number;
-use sha256::Digest;
+use crate::notice::Notice;
 
-// Receipts are being gathered for one statement; their bytes lie in the caller's memory.
+// Receipts are being gathered for one notice; their bytes lie in the caller's memory.
 #[derive(Drop)]
 pub struct Gathering {
-    pub(crate) house: u8,
-    pub(crate) number: Number,
-    pub(crate) digest: Digest,
+    pub(crate) notice: Notice,
     // The houses whose receipts are gathered, house i by bit i.
     pub(crate) gathered: u16,
 }

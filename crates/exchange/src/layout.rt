@@ -8,15 +8,15 @@ use seal::{STATEMENT_BYTES, Statement};
 // The statement and the count.
 pub const HEAD_BYTES: usize = STATEMENT_BYTES + 1;
 
-// Where the receipt at a place stands, places counted from 0.
-pub(crate) fn receipt_at(size: usize, place: usize) -> usize
-    requires { (size ≤ 2048) × (place ≤ 256) }
+// Where the receipt at a place stands, places counted from 0. The bound on sizes is no type: kinds answer theirs as a usize.
+pub(crate) fn receipt_at(size: usize, place: u16) -> usize
+    requires { size ≤ 2048 }
     ensures { result ≡ receipt_at size place }
 {
-    HEAD_BYTES + place * (1 + size)
+    HEAD_BYTES + usize::from(place) * (1 + size)
 }
 
-// Writes a house and its seal from a place on.
+// Writes a house and its seal from a place on: two lines, which a split of the memory would not make plainer.
 pub(crate) fn write_receipt(memory: &mut [u8], at: usize, house: u8, seal: &[u8])
     requires { at + (1 + length seal.now) ≤ length memory.old }
     ensures { memory.new ≡ paste memory.old at (receipt_bytes house seal.now) (1 + length seal.now) }

@@ -1,12 +1,14 @@
 #![tactic(auto)]
 
 mod announcing;
+mod asking;
 mod collecting;
 mod filing;
 mod filings;
 mod fresh;
 mod gathering;
 mod layout;
+mod notice;
 mod opening;
 mod reading;
 mod rows;
@@ -14,6 +16,7 @@ mod station;
 
 pub use filing::Filing;
 pub use gathering::{Closed, Gathering};
+pub use notice::Notice;
 pub use opening::Exchange;
 pub use reading::{Head, Receipt, part_head, read_receipt};
-pub use station::{Row, Slot, Station};
+pub use station::{Row, Station};

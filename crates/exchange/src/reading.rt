@@ -23,63 +23,33 @@ pub struct Receipt<'a> {
     pub seal: &'a [u8],
 }
 
-fn word_from(bytes: &[u8], at: usize) -> u64
-    requires { at + 8 ≤ length bytes.now }
-    ensures { result ≡ word_at bytes.now at }
+fn word(bytes: &[u8; 8]) -> u64
+    ensures { result ≡ word_at bytes.now 0 }
 {
-    u64::from_be_bytes([
-        bytes[at],
-        bytes[at + 1],
-        bytes[at + 2],
-        bytes[at + 3],
-        bytes[at + 4],
-        bytes[at + 5],
-        bytes[at + 6],
-        bytes[at + 7],
-    ])
+    u64::from_be_bytes(*bytes)
 }
 
 // The head of a bundle, or nothing where the bundle is shorter than a head.
 pub fn part_head(bundle: &[u8]) -> Option<Head>
     ensures { MatchOption result (length bundle.now < head_length) (λ h. (head_length ≤ length bundle.now) × (h.statement ≡ bundle_statement bundle.now) × (h.count ≡ bundle_count bundle.now)) }
 {
-    if bundle.len() < HEAD_BYTES {
-        return None;
-    }
     let [mark, house, high, low, rest @ ..] = bundle else {
         return None;
     };
-    let words = [
-        word_from(rest, 0),
-        word_from(rest, 8),
-        word_from(rest, 16),
-        word_from(rest, 24),
-    ];
+    let (words, _) = rest.as_chunks::<8>();
+    let [first, second, third, fourth, ..] = words else {
+        return None;
+    };
+    let count = *rest.get(32)?;
     let statement = Statement {
         mark: *mark,
         house: *house,
         number: Number::from_be_bytes([*high, *low]),
-        digest: Digest { words },
+        digest: Digest {
+            words: [word(first), word(second), word(third), word(fourth)],
+        },
     };
-    Some(Head {
-        statement,
-        count: rest[32],
-    })
-}
-
-// The receipt at a place, places counted from 0, with seals of so many bytes.
-pub(crate) fn receipt_from(bundle: &[u8], size: usize, place: usize) -> Receipt<'_>
-    requires { (size ≤ 2048) × ((place < 256) × (receipt_at size (place + 1) ≤ length bundle.now)) }
-    ensures place { result.place ≡ place + 1 }
-    ensures house { result.house ≡ receipt_house size bundle.now place }
-    ensures seal { result.seal.now ≡ receipt_seal size bundle.now place }
-{
-    let at = receipt_at(size, place);
-    Receipt {
-        place: place + 1,
-        house: bundle[at],
-        seal: &bundle[at + 1..at + 1 + size],
-    }
+    Some(Head { statement, count })
 }
 
 // The longest seal that a kind may have.
@@ -92,9 +62,13 @@ pub fn read_receipt(bundle: &[u8], size: usize, place: u8) -> Option<Receipt<'_>
     if size > MOST_SEAL {
         return None;
     }
-    let place = place as usize;
-    if bundle.len() < receipt_at(size, place + 1) {
+    let at = receipt_at(size, u16::from(place));
+    if bundle.len() < at + 1 + size {
         return None;
     }
-    Some(receipt_from(bundle, size, place))
+    Some(Receipt {
+        place: usize::from(place) + 1,
+        house: bundle[at],
+        seal: &bundle[at + 1..at + 1 + size],
+    })
 }

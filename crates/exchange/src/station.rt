@@ -2,18 +2,11 @@
 use edition::Number;
 use sha256::Digest;
 
-// What is noted for one number of a house.
-#[derive(Clone, Copy)]
-pub enum Slot {
-    Empty,
-    Holds(Digest),
-}
-
-// Of one house: the last number filed, and the slots of the four numbers after it.
+// Of one house: the last number filed, and the slots of the four numbers after it, each with the digest noted for its number.
 #[derive(Clone, Copy)]
 pub struct Row {
     pub(crate) last: Number,
-    pub(crate) slots: [Slot; 4],
+    pub(crate) slots: [Option<Digest>; 4],
 }
 
 #[derive(Clone, Copy)]

@@ -1,11 +1,7 @@
--- What the comparison gathers: zero exactly where no byte differs so far.
-use Rattle.std.proofs.Common.{◌≡◌, ℕ, ◌+◌, ◌<◌, List, length, get_or, take, sym, refl, ap, ◌∙◌, ap₂, arith}
+-- What the comparison gathers: zero exactly where no byte differs.
+use Rattle.std.proofs.Common.{◌≡◌, ℕ, List, [], ◌∷◌, map, length, sym, refl, ap, ◌∙◌, ap₂, arith}
+use Rattle.std.specs.List.{fold, zip}
 use lib.Bits.{bit_or, bit_xor, and_le_l, and_le_r, or_add_and, xor_add_and, xor_self}
-use Rattle.std.proofs.lemmas.List.{take_more, take_more_same, same_from_push}
-
--- diff is zero exactly where the first n of a and of b are equal
-abbrev pub Tells : ℕ → ℕ → List ℕ → List ℕ → Type 0
-Tells diff n a b = (diff ≡ 0 → take n a ≡ take n b) × (take n a ≡ take n b → diff ≡ 0)
 
 or_none : (d e : ℕ) → bit_or d e ≡ 0 → (d ≡ 0) × (e ≡ 0)
 or_none d e h =
@@ -21,18 +17,24 @@ xor_none x y h =
     let right = and_le_r x y in
     omega arith
 
-pub tells_none : (a b : List ℕ) → Tells 0 0 a b
-tells_none a b = (λ _. refl, λ _. refl)
+-- each byte of a xor the one of b beside it
+abbrev pub apart : List ℕ → List ℕ → List ℕ
+apart a b = map (λ (p : ℕ × ℕ). bit_xor p.0 p.1) (zip a b)
 
--- one turn of the loop that compares
-pub tells_more : (diff i : ℕ) (a b : List ℕ) → i < length a → i < length b → Tells diff i a b → Tells (bit_or diff (bit_xor (get_or a i 0) (get_or b i 0))) (i + 1) a b
-tells_more diff i a b h k before =
-    let x = get_or a i 0 in
-    let y = get_or b i 0 in (
+pub gathered : (diff : ℕ) (a b : List ℕ) → length a ≡ length b
+    → (fold bit_or diff (apart a b) ≡ 0 → (diff ≡ 0) × (a ≡ b)) × (diff ≡ 0 → a ≡ b → fold bit_or diff (apart a b) ≡ 0)
+gathered diff [] [] long = (λ none. (none, refl), λ none _. none)
+gathered diff [] (y ∷ b) long = absurd (omega (arith, long))
+gathered diff (x ∷ a) [] long = absurd (omega (arith, long))
+gathered diff (x ∷ a) (y ∷ b) long =
+    let rest : length a ≡ length b = omega (arith, long) in
+    let after = gathered (bit_or diff (bit_xor x y)) a b rest in (
       λ none.
-          let parts = or_none diff (bit_xor x y) none in
-          take_more_same a b i 0 h k (before.0 parts.0) (xor_none x y parts.1),
-      λ same.
-          let parts = same_from_push (take i a) (take i b) x y (sym (take_more a i 0 h) ∙ same ∙ take_more b i 0 k) in
-          ap₂ bit_or (before.1 parts.0) (ap (bit_xor x) (sym parts.1) ∙ xor_self x),
+          let parts = after.0 none in
+          let before = or_none diff (bit_xor x y) parts.0 in
+          (before.0, ap₂ (λ (v : ℕ) (vs : List ℕ). v ∷ vs) (xor_none x y before.1) parts.1),
+      λ none same.
+          let here : x ≡ y = cc in
+          let others : a ≡ b = cc in
+          after.1 (ap₂ bit_or none (ap (bit_xor x) (sym here) ∙ xor_self x)) others,
     )

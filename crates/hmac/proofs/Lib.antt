@@ -1,5 +1,4 @@
-mod Blocks
 mod Masks
 mod Differences
-mod Stamps
-mod Examples
+pub mod Stamps
+pub mod Examples

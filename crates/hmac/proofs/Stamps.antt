@@ -7,6 +7,7 @@ use Rattle.sha256.specs.Compression.{compressed}
 use Rattle.sha256.specs.Hash.{resumed, paired}
 use Rattle.sha256.specs.Text.{digest_of, digest_bytes}
 use Rattle.sha256.proofs.Hash.{sha256_after}
+use Rattle.hmac.specs.declared.prepared.PreparedKey.{PreparedKey}
 use Rattle.hmac.specs.Key.{ipad, opad, masked}
 use Rattle.hmac.specs.Hmac.{hmac_of_block}
 use Rattle.hmac.proofs.Masks.{masked_length}
@@ -22,11 +23,10 @@ continued pad block rest s d long prepared done =
     ∙ ap (λ (t : State). finished t rest) prepared
     ∙ ap (λ (t : State). record { words = paired t }) (sha256_after (masked pad block) rest (masked_length pad block ∙ long))
 
-pub stamped : (block message bytes : List ℕ) (inner outer : State) (inside r : Digest)
-    → length block ≡ 64 → inner ≡ compressed initial (masked ipad block) → outer ≡ compressed initial (masked opad block)
-    → inside ≡ finished inner message → bytes ≡ digest_bytes inside → r ≡ finished outer bytes
-    → r ≡ hmac_of_block block message
+pub stamped : (key : PreparedKey) (message bytes : List ℕ) (inside r : Digest)
+    → length key.block ≡ 64 → inside ≡ finished key.inner message → bytes ≡ digest_bytes inside → r ≡ finished key.outer bytes
+    → r ≡ hmac_of_block key.block message
 unfolding hmac_of_block
-stamped block message bytes inner outer inside r long first second hashed written done =
-    continued opad block bytes outer r long second done
-    ∙ ap (λ (v : List ℕ). digest_of (masked opad block ++ v)) (written ∙ ap digest_bytes (continued ipad block message inner inside long first hashed))
+stamped key message bytes inside r long hashed written done =
+    continued opad key.block bytes key.outer r long key.outside done
+    ∙ ap (λ (v : List ℕ). digest_of (masked opad key.block ++ v)) (written ∙ ap digest_bytes (continued ipad key.block message key.inner inside long key.inside hashed))

@@ -1,20 +1,11 @@
 // The key as a block of the hash, and the block under a pad.
-ghost use Rattle.std.specs.Prelude.{◌≡◌, ◌<◌, ◌≤◌, ◌++◌, length, drop};
-ghost use Rattle.sha256.specs.Text.{digest_of, digest_bytes};
-ghost use Rattle.hmac.specs.Key.{extended, masked};
+ghost use Rattle.std.specs.Prelude.{◌≡◌, ◌≤◌, length};
+ghost use Rattle.hmac.specs.Key.{extended, key_block, masked};
 
 use sha256::digest;
 
 // The size of SHA-256's blocks in bytes.
 const BLOCK: usize = 64;
-
-// Writes the bytes at the front.
-fn put(to: &mut [u8], bytes: &[u8])
-    requires { length bytes.now ≤ length to.old }
-    ensures { to.new ≡ bytes.now ++ drop (length bytes.now) to.old }
-{
-    to[0..bytes.len()].copy_from_slice(bytes);
-}
 
 // A key that fits a block, with zeros after it.
 fn extend(key: &[u8]) -> [u8; 64]
@@ -22,14 +13,14 @@ fn extend(key: &[u8]) -> [u8; 64]
     ensures { result ≡ extended key.now }
 {
     let mut block = [0; 64];
-    put(&mut block, key);
+    block[..key.len()].copy_from_slice(key);
     block
 }
 
 // The block of a key of any length: the key, or its digest where it is longer than a block, with zeros after it.
+#[tactic(auto, unfolding(crate::specs::Key::key_block))]
 pub(crate) fn block_of(key: &[u8]) -> [u8; 64]
-    ensures long { 64 < length key.now → result ≡ extended (digest_bytes (digest_of key.now)) }
-    ensures short { length key.now ≤ 64 → result ≡ extended key.now }
+    ensures { result ≡ key_block key.now }
 {
     if key.len() > BLOCK {
         extend(&digest(key).bytes())
@@ -42,9 +33,5 @@ pub(crate) fn block_of(key: &[u8]) -> [u8; 64]
 pub(crate) fn mask(block: &[u8; 64], pad: u8) -> [u8; 64]
     ensures { result ≡ masked pad block.now }
 {
-    let mut out = [0; 64];
-    for i in 0..BLOCK {
-        out[i] = block[i] ^ pad;
-    }
-    out
+    block.map(|b| b ^ pad)
 }

@@ -20,6 +20,7 @@ pub fn hmac(key: &[u8], message: &[u8]) -> Digest
 }
 
 // The definitions give the published values of three test cases of RFC 4231, one of them with a key longer than a block.
+#[tactic(auto, using(crate::proofs::Examples::examples))]
 pub fn published_examples()
     ensures { Examples }
 {}

@@ -1,17 +1,15 @@
--- Laws of the chain, one stamp at a time.
-use Rattle.std.proofs.Common.{◌≡◌, ℕ, ◌+◌, List, ◌++◌, drop, refl, ap, add-one}
-use Rattle.sha256.specs.Text.{digest_bytes}
-use Rattle.hmac.specs.Hmac.{hmac_of_block}
+-- A chain is the fold of its stamps over as many turns.
+use Rattle.std.proofs.Common.{◌≡◌, ℕ, zero, suc, ◌+◌, List, refl, ap, ◌∙◌}
+use Rattle.std.specs.List.{fold, range_with_len}
 use Rattle.measure.specs.Chains.{chained}
 
-pub chained_none : (block m : List ℕ) → chained 0 block m ≡ m
+-- the first stamp may be taken apart from the rest
+after_first : (n : ℕ) (block m : List ℕ) → chained n block (chained 1 block m) ≡ chained (suc n) block m
 unfolding chained
-chained_none block m = refl
+after_first zero block m = refl
+after_first (suc n) block m = ap (chained 1 block) (after_first n block m)
 
-pub chained_one : (block m : List ℕ) → chained 1 block m ≡ digest_bytes (hmac_of_block block m) ++ drop 32 m
+pub folded : (n i : ℕ) (block m : List ℕ) → fold (λ a x. chained 1 block a) m (range_with_len i n) ≡ chained n block m
 unfolding chained
-chained_one block m = refl
-
-pub chained_more : (n : ℕ) (block m : List ℕ) → chained (n + 1) block m ≡ chained 1 block (chained n block m)
-unfolding chained
-chained_more n block m = ap (λ (k : ℕ). chained k block m) (add-one n)
+folded zero i block m = refl
+folded (suc n) i block m = folded n (i + 1) block (chained 1 block m) ∙ after_first n block m

@@ -2,46 +2,39 @@
 // The crate measure_c gives it to bench/ by name.
 #![tactic(auto)]
 
-ghost use Rattle.std.specs.Prelude.{◌≡◌, ◌≤◌, ◌++◌, length, drop};
+ghost use Rattle.std.specs.Prelude.{◌≡◌};
 ghost use Rattle.measure.specs.Chains.{chained, first, chain_memory};
 
 use hmac::PreparedKey;
 use seal::STATEMENT_BYTES;
 
-// Writes the bytes at the front.
-fn put(to: &mut [u8], bytes: &[u8])
-    requires { length bytes.now ≤ length to.old }
-    ensures { to.new ≡ bytes.now ++ drop (length bytes.now) to.old }
-{
-    to[0..bytes.len()].copy_from_slice(bytes);
-}
-
 // One stamp more.
-fn turn(key: &PreparedKey, statement: [u8; STATEMENT_BYTES]) -> [u8; STATEMENT_BYTES]
+#[tactic(auto, unfolding(crate::specs::Chains::chained))]
+fn turn(key: &PreparedKey, mut statement: [u8; STATEMENT_BYTES]) -> [u8; STATEMENT_BYTES]
     ensures { result ≡ chained 1 key.now.block statement }
 {
-    let mut next = statement;
-    put(&mut next, &key.stamp(&statement).bytes());
-    next
+    let stamp = key.stamp(&statement).bytes();
+    *statement.first_chunk_mut().unwrap() = stamp;
+    statement
 }
 
 // The statement after so many stamps.
 fn chain(key: &PreparedKey, turns: u32) -> [u8; STATEMENT_BYTES]
     ensures { result ≡ chained turns key.now.block first }
 {
-    let mut statement = [0; STATEMENT_BYTES];
-    for i in 0..turns {
-        let next = turn(key, statement);
-        statement = next;
-    }
-    statement
+    (0..turns).fold(
+        [0; STATEMENT_BYTES],
+        |statement, _|
+            ensures { result ≡ chained 1 key.entry.now.block statement }
+        { turn(key, statement) },
+    )
 }
 
 // Writes the statement after so many stamps to the front of the memory.
 pub fn measure_stamps(key: &[u8], turns: u32, memory: &mut [u8])
     ensures { memory.new ≡ chain_memory key.now turns memory.old }
 {
-    if memory.len() >= STATEMENT_BYTES {
-        put(memory, &chain(&PreparedKey::new(key), turns));
+    if let Some(front) = memory.first_chunk_mut() {
+        *front = chain(&PreparedKey::new(key), turns);
     }
 }

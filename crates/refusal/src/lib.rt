@@ -1,17 +1,17 @@
 // The closed list of refusals, each with its number and its text, and a refusal with its place.
 #![tactic(auto)]
 
-ghost use Rattle.std.specs.Prelude.{◌≡◌, Some, Decides, nat_eq};
-ghost use Rattle.std.specs.Ordering.{on};
+ghost use Rattle.std.specs.Prelude.{◌≡◌, Some, Ok};
 ghost use Rattle.refusal.specs.Numbers.{number_of};
 ghost use Rattle.refusal.specs.Places.{refused_text};
+ghost use Rattle.refusal.specs.Questions.{ask, at_receipt, whole};
 ghost use Rattle.refusal.specs.Texts.{text_of};
-ghost use Rattle.std.specs.Cmp.Rules.{comparing};
-ghost use Rattle.std.proofs.Common.{rules};
 
+use std::error::Error;
 use std::fmt;
+use std::num::NonZeroU8;
 
-#[derive(Clone, Copy, Debug)]
+#[derive(Clone, Copy, Debug, PartialEq, Eq)]
 pub enum Refusal {
     // The number of houses is not from 1 to 16.
     HouseCount = 1,
@@ -71,6 +71,13 @@ impl Refusal {
         self as u8
     }
 
+    // Refuses, unless a question is answered by yes.
+    pub fn unless(self, yes: bool) -> Result<(), Refusal>
+        ensures { result ≡ ask yes self (Ok tt) }
+    {
+        if yes { Ok(()) } else { Err(self) }
+    }
+
     // What is wrong, as a sentence.
     fn text(self) -> &'static str
         ensures { result.now ≡ text_of self }
@@ -104,25 +111,6 @@ impl Refusal {
     }
 }
 
-// Written by hand, so that its contract says outright that it decides whether the two are one.
-impl PartialEq for Refusal {
-    ghost eq = { on number_of nat_eq };
-
-    ghost laws = { Prim.search (comparing, rules) };
-
-    #[tactic(auto, using(crate::proofs::Numbers::same_number))]
-    fn eq(&self, other: &Refusal) -> bool
-        ensures answers { result ≡ on number_of nat_eq self.now other.now }
-        ensures decides { Decides result (self.now ≡ other.now) }
-    {
-        self.number() == other.number()
-    }
-}
-
-impl Eq for Refusal {
-    ghost laws = { Prim.search (comparing, rules) };
-}
-
 impl fmt::Display for Refusal {
     ghost output = { λ x. Some (text_of x) };
 
@@ -131,32 +119,41 @@ impl fmt::Display for Refusal {
     }
 }
 
-// A refusal, and the place of the receipt that it fell on, counted from 1; 0 where it fell on none.
+impl Error for Refusal {}
+
+// A refusal, and the place of the receipt that it fell on, counted from 1, if it fell on one.
 #[derive(Clone, Copy, PartialEq, Eq, Debug)]
 pub struct Refused {
     pub refusal: Refusal,
-    pub place: u8,
+    pub place: Option<NonZeroU8>,
 }
 
 impl Refused {
     // A refusal that fell on no receipt.
     pub fn new(refusal: Refusal) -> Refused
-        ensures { result ≡ record { refusal = refusal; place = 0 } }
+        ensures { result ≡ whole refusal }
     {
-        Refused { refusal, place: 0 }
+        Refused {
+            refusal,
+            place: None,
+        }
     }
 
-    // A refusal that fell on the receipt at a place, counted from 1.
+    // A refusal that fell on the receipt at a place, counted from 1; at place 0 there is none.
+    #[tactic(auto, using(crate::proofs::Places::own_place))]
     pub fn at(refusal: Refusal, place: u8) -> Refused
-        ensures { result ≡ record { refusal = refusal; place = place } }
+        ensures { result ≡ at_receipt refusal place }
     {
-        Refused { refusal, place }
+        Refused {
+            refusal,
+            place: NonZeroU8::new(place),
+        }
     }
 }
 
 // So that `?` takes a refusal for one that fell on no receipt.
 impl From<Refusal> for Refused {
-    ghost from_gives = { λ x y. y ≡ record { refusal = x; place = 0 } };
+    ghost from_gives = { λ x y. y ≡ whole x };
 
     fn from(value: Refusal) -> Refused {
         Refused::new(value)
@@ -169,14 +166,14 @@ impl fmt::Display for Refused {
 
     fn fmt<W: fmt::Write>(&self, f: &mut fmt::Formatter<W>) -> fmt::Result {
         let number = self.refusal.number();
-        let place = self.place;
-        if place == 0 {
-            write!(f, "refused {number}")
-        } else {
-            write!(f, "refused {number} at receipt {place}")
+        match self.place {
+            None => write!(f, "refused {number}"),
+            Some(place) => write!(f, "refused {number} at receipt {place}"),
         }
     }
 }
+
+impl Error for Refused {}
 
 #[cfg(test)]
 mod tests {

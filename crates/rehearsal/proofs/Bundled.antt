@@ -30,20 +30,20 @@ placed_at n x at e =
 
 -- a gathering for the same house and number
 abbrev Alike : Gathering → Gathering → Type 0
-Alike g g' = (g'.house ≡ g.house) × (g'.number ≡ g.number)
+Alike g g' = (g'.notice.house ≡ g.notice.house) × (g'.notice.number ≡ g.notice.number)
 
 -- receipts leave the house and the number
 add_alike : (a : Result (Unit {0}) Refused) (g : Gathering) (i : ℕ) (m : List ℕ) (y : Gathering × List ℕ)
     → added a (after a (λ _. with_house g i) g) m ≡ Ok y → Alike g y.0
 add_alike (Ok t) g i m y e =
     let same : y.0 ≡ with_house g i = cc in
-    (ap (λ (x : Gathering). x.house) same, ap (λ (x : Gathering). x.number) same)
+    (ap (λ (x : Gathering). x.notice.house) same, ap (λ (x : Gathering). x.notice.number) same)
 add_alike (Err x) g i m y e = absurd (refused_not_taken x y e)
 
 same_alike : (g : Gathering) (m : List ℕ) (y : Gathering × List ℕ) → ◌≡◌ {A = Result (Gathering × List ℕ) Refused} (Ok (g, m)) (Ok y) → Alike g y.0
 same_alike g m y e =
     let same : y.0 ≡ g = cc in
-    (ap (λ (x : Gathering). x.house) same, ap (λ (x : Gathering). x.number) same)
+    (ap (λ (x : Gathering). x.notice.house) same, ap (λ (x : Gathering). x.notice.number) same)
 
 either_alike : (b : Bool) (g : Gathering) (m : List ℕ) (x : Result (Gathering × List ℕ) Refused) (y : Gathering × List ℕ)
     → (x ≡ Ok y → Alike g y.0) → cond b x (Ok (g, m)) ≡ Ok y → Alike g y.0
@@ -73,16 +73,16 @@ kept_taken : {A B : Type 0} (a : Result A (Refused × B)) (x : A) → kept a ≡
 kept_taken (Ok y) x e = cc
 kept_taken (Err y) x e = absurd (refused_not_taken y.0.refusal x e)
 
-start_alike : (r : Ruling) (j k : ℕ) (d : Digest) (g : Gathering) → start_answer r j k d ≡ Ok g → (g.house ≡ j) × (g.number ≡ k)
+start_alike : (r : Ruling) (j k : ℕ) (d : Digest) (g : Gathering) → start_answer r j k d ≡ Ok g → (g.notice.house ≡ j) × (g.notice.number ≡ k)
 start_alike r j k d g e =
     let q1 = asked (ltb j r.houses) (whole NoSuchHouse) _ g e in
     let q2 = asked (leb 1 k) (whole NumberPast) _ g q1.1 in
-    let is : g ≡ record { house = j; number = k; digest = d; gathered = 0 } = let p = q2.1 in cc in
-    (ap (λ (x : Gathering). x.house) is, ap (λ (x : Gathering). x.number) is)
+    let is : g ≡ record { notice = record { house = j; number = k; digest = d }; gathered = 0 } = let p = q2.1 in cc in
+    (ap (λ (x : Gathering). x.notice.house) is, ap (λ (x : Gathering). x.notice.number) is)
 
 close_alike : (r : Ruling) (g : Gathering) (c : Closed) → close_answer r g ≡ Ok c → c.whole ≡ g
 close_alike r g c e =
-    let q = asked (r.accepts g.house g.number g.gathered) (whole NotAccepted, g) _ c e in
+    let q = asked (r.accepts g.notice.house g.notice.number g.gathered) (whole NotAccepted, g) _ c e in
     ap (λ (x : Closed). x.whole) (let p = q.1 in let same : c ≡ record { whole = g } = cc in same)
 
 -- the bundle begins with its head
@@ -120,6 +120,6 @@ bundle_alike r q j k d m y e =
     let headed = issue_headed r closed z.1 n (kept_taken _ n i.1.0) in
     let is : y ≡ (n, issue_memory r register closed z.1) = let p = i.1.1 in cc in
     let read : take y.0 y.1 ≡ head_bytes (gathering_statement r closed.whole) (ones closed.whole.gathered) ++ headed.0 = ap (λ (x : ℕ × List ℕ). take x.0 x.1) is ∙ headed.1 in (
-      ap bundle_house read ∙ housed (gathering_statement r closed.whole) (ones closed.whole.gathered) headed.0 ∙ ap (λ (x : Gathering). x.house) whole ∙ gathered.0 ∙ started.0,
-      ap bundle_number read ∙ numbered (gathering_statement r closed.whole) (ones closed.whole.gathered) headed.0 ∙ ap (λ (x : Gathering). x.number) whole ∙ gathered.1 ∙ started.1,
+      ap bundle_house read ∙ housed (gathering_statement r closed.whole) (ones closed.whole.gathered) headed.0 ∙ ap (λ (x : Gathering). x.notice.house) whole ∙ gathered.0 ∙ started.0,
+      ap bundle_number read ∙ numbered (gathering_statement r closed.whole) (ones closed.whole.gathered) headed.0 ∙ ap (λ (x : Gathering). x.notice.number) whole ∙ gathered.1 ∙ started.1,
     )

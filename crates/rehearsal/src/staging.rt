@@ -1,7 +1,8 @@
 // The exchange of a rehearsal with a station for each house, and the calls played on them.
-ghost use Rattle.std.specs.Prelude.{◌≡◌, ◌<◌, ◌≤◌, [], length, IfOk, Ok, Err, MatchOption, MatchResult};
+ghost use Rattle.std.specs.Prelude.{◌≡◌, ◌<◌, ◌≤◌, [], min, length, IfOk, Ok, Err, MatchOption, MatchResult};
 ghost use Rattle.std.specs.Iterator.{at_most};
 ghost use Rattle.std.specs.Option.{option_map};
+ghost use Rattle.sha256.specs.Text.{digest_of};
 ghost use Rattle.seal.specs.Registers.{row_at};
 ghost use Rattle.seal.specs.Rows.{entry_of, row_bytes};
 ghost use Rattle.exchange.specs.Stations.{fresh_station};
@@ -13,11 +14,10 @@ ghost use Rattle.rehearsal.specs.Playing.{Fresh, Opens, Ran, Staged};
 use crate::events::{Asked, Call, Event, Named, parse};
 use crate::fields::{LINE_END, capped, cut};
 use crate::report::{Line, Shown};
-use edition::Number;
-use exchange::{Exchange, Gathering, Station};
+use exchange::{Exchange, Gathering, Notice, Station};
 use refusal::{Refusal, Refused};
 use seal::{Register, Seal, Statement, Table};
-use sha256::{Digest, digest};
+use sha256::digest;
 use std::alloc::{AllocError, Global};
 use std::array;
 use witness::Rule;
@@ -77,6 +77,17 @@ fn seal_of(row: usize) -> [u8; 2]
     (row as u16).to_be_bytes()
 }
 
+// The notice that an event's text was announced under the house and the number that it names.
+fn notice_of(named: Named, text: &[u8]) -> Notice
+    ensures { result ≡ record { house = min named.house 255; number = named.number; digest = digest_of text.now } }
+{
+    Notice {
+        house: capped(named.house),
+        number: named.number,
+        digest: digest(text),
+    }
+}
+
 // A fresh station for each house, at the house's place.
 fn fresh_stations() -> [Station; STATIONS]
     ensures { Fresh result }
@@ -130,17 +141,10 @@ impl<R: Rule + Drop> Stage<R> {
     {
         let at = self.station_of(at)?;
         let row = self.exchange.seal().used();
-        let house = capped(named.house);
-        let noted = digest(text);
+        let notice = notice_of(named, text);
         let mut seal = [0; 2];
         self.exchange
-            .note(
-                &mut self.stations[at],
-                house,
-                named.number,
-                noted,
-                &mut seal,
-            )
+            .note(&mut self.stations[at], notice, &mut seal)
             .map_err(|refused| refused.refusal)?;
         Ok(row)
     }
@@ -188,27 +192,19 @@ impl<R: Rule + Drop> Stage<R> {
     // Writes the bundle of all receipts there are, and answers its length.
     fn bundle(
         &self,
-        house: u8,
-        number: Number,
-        digest: Digest,
+        notice: Notice,
         memory: &mut [u8],
     ) -> Result<usize, Refusal>
         ensures bound { IfOk result (λ n. n ≤ length memory.old) }
         ensures answer { MatchResult result
-            (λ n. bundle_of (R.Rule.ruling self.now.exchange.rule) self.now.exchange.seal house number digest memory.old ≡ Ok (n, memory.new))
-            (λ e. bundle_of (R.Rule.ruling self.now.exchange.rule) self.now.exchange.seal house number digest memory.old ≡ Err e) }
+            (λ n. bundle_of (R.Rule.ruling self.now.exchange.rule) self.now.exchange.seal notice.house notice.number notice.digest memory.old ≡ Ok (n, memory.new))
+            (λ e. bundle_of (R.Rule.ruling self.now.exchange.rule) self.now.exchange.seal notice.house notice.number notice.digest memory.old ≡ Err e) }
     {
-        let mark = self.exchange.rule().mark();
         let mut gathering = self
             .exchange
-            .start(house, number, digest)
+            .start(notice)
             .map_err(|refused| refused.refusal)?;
-        let statement = Statement {
-            mark,
-            house,
-            number,
-            digest,
-        };
+        let statement = self.exchange.statement(notice);
         self.gather(statement, &mut gathering, memory)
             .map_err(|refused| refused.refusal)?;
         let closed = self
@@ -226,9 +222,8 @@ impl<R: Rule + Drop> Stage<R> {
         ensures exchange { self.new.exchange ≡ self.old.exchange }
     {
         let at = self.station_of(at)?;
-        let house = capped(named.house);
         let mut memory = [0; BUNDLE];
-        let length = self.bundle(house, named.number, digest(text), &mut memory)?;
+        let length = self.bundle(notice_of(named, text), &mut memory)?;
         let filing = self
             .exchange
             .file(&mut self.stations[at], &memory[..length], text)

@@ -1,25 +1,36 @@
 -- Keys that are made ready one by one.
-use Rattle.std.proofs.Common.{◌≡◌, ℕ, ◌+◌, ◌<◌, ◌≢◌, List, [], length, get_or, set, sym, ap, ◌∙◌, arith, below_more}
-use Rattle.std.proofs.lemmas.List.{get_or-set_same, get_or-set_other, get_or-map, length-map, map-set}
+use Rattle.std.proofs.Common.{◌≡◌, ℕ, zero, suc, ◌+◌, ◌*◌, ◌/◌, ◌<◌, ◌≤◌, List, [], length, get_or, take, drop, ⊎_elim, sym, ap, ◌∙◌, subst, arith, add_comm, mul-zero, mul-suc}
+use Rattle.std.proofs.lemmas.Bool.{cases_eq}
+use Rattle.std.proofs.lemmas.List.{get_or-map, drop-drop}
+use Rattle.std.specs.Array.{IsFromFnResultFrom}
+use Rattle.std.specs.Simd.{first_chunks}
+use denote.Param.Members.{Mut, Called}
 use Rattle.hmac.specs.declared.prepared.PreparedKey.{PreparedKey}
-use Rattle.hmac.specs.Key.{key_block}
-use Rattle.seal.specs.StampKinds.{blocks_of, key_at}
-
--- the first n blocks are those of the first n keys
-abbrev pub Ready : List PreparedKey → List ℕ → ℕ → Type 0
-Ready prepared keys n = (i : ℕ) → i < n → get_or (blocks_of prepared) i [] ≡ key_block (key_at keys i)
-
--- one turn of the loop that prepares
-pub ready_more : (prepared : List PreparedKey) (keys : List ℕ) (i : ℕ) (p : PreparedKey)
-    → i < length prepared → p.block ≡ key_block (key_at keys i) → Ready prepared keys i → Ready (set prepared i p) keys (i + 1)
-ready_more prepared keys i p within here before =
-    let block : PreparedKey → List ℕ = λ k. k.block in
-    let moved = map-set block prepared i p in
-    let inside : i < length (blocks_of prepared) = simp length-map within in
-    below_more _ _
-    (λ k h. let other : k ≢ i = omega arith in ap (λ (v : List (List ℕ)). get_or v k []) moved ∙ get_or-set_other (blocks_of prepared) i k p.block [] other ∙ before k h)
-    (ap (λ (v : List (List ℕ)). get_or v i []) moved ∙ get_or-set_same (blocks_of prepared) i p.block [] inside ∙ here)
+use Rattle.seal.specs.StampKinds.{key_size, blocks_of, key_at}
 
 -- the block of a key that was read
-pub block_at : (keys : List PreparedKey) (i : ℕ) (d : PreparedKey) → i < length keys → (get_or keys i d).block ≡ get_or (blocks_of keys) i []
-block_at keys i d h = let block : PreparedKey → List ℕ = λ k. k.block in sym (get_or-map block keys i d [] h)
+pub block_at : (keys : List PreparedKey) (i : ℕ) (d : PreparedKey) {k : ℕ} → i ≡ k → i < length keys → (get_or keys i d).block ≡ get_or (blocks_of keys) k []
+block_at keys i d same h = let block : PreparedKey → List ℕ = λ k. k.block in sym (get_or-map block keys i d [] h) ∙ ap (λ (v : ℕ). get_or (blocks_of keys) v []) same
+
+-- what a closure that does not change gives at each number
+module _ {F B : Type 0} (g : Mut F (ℕ × Unit {0}) B) (f : F) (P : ℕ → B → Type 0) (gives : (i : ℕ) (y : B) (q : F) → Called g f (i, tt) y q → P i y × (q ≡ f)) (ys : List B) where
+  pub each_given : (n i : ℕ) → IsFromFnResultFrom g f ys i n → (k : ℕ) → i ≤ k → k < i + n → (y : B) × (P k y × (get_or ys k y ≡ y))
+  each_given zero i ran k low high = absurd (omega arith)
+  each_given (suc n) i (q, y, written, call, rest) k low high =
+      let here = gives i y q call in
+      let after = subst (λ (s : F). IsFromFnResultFrom g s ys (i + 1) n) here.1 rest in
+      ⊎_elim
+      (λ same. subst (λ (j : ℕ). (x : B) × (P j x × (get_or ys j x ≡ x))) (sym same) (y, (here.0, written.0)))
+      (λ other. each_given n (i + 1) after k (omega arith) (omega arith))
+      (cases_eq k i)
+
+-- a chunk of the keys is a key
+pub chunk_at : (n k i : ℕ) (xs : List ℕ) → i < k → get_or (first_chunks n k xs) i [] ≡ take n (drop (n * i) xs)
+chunk_at n zero i xs h = absurd (omega arith)
+chunk_at n (suc k) zero xs h = ap (λ (j : ℕ). take n (drop j xs)) (sym (mul-zero n))
+chunk_at n (suc k) (suc i) xs h =
+    chunk_at n k i (drop n xs) (omega arith)
+    ∙ ap (take n) (drop-drop (n * i) n xs ∙ ap (λ (j : ℕ). drop j xs) (add_comm n (n * i) ∙ sym (mul-suc n i)))
+
+pub key_chunk : (keys : List ℕ) (i : ℕ) → key_size * i + key_size ≤ length keys → get_or (first_chunks key_size (length keys / key_size) keys) i [] ≡ key_at keys i
+key_chunk keys i whole = chunk_at key_size (length keys / key_size) i keys (omega arith)

@@ -1,4 +1,5 @@
-mod Keys
-mod Shares
+pub mod Keys
+pub mod Rows
+pub mod Shares
 pub mod Signings
 pub mod Statements

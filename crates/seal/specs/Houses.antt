@@ -1,5 +1,8 @@
 -- What both seal kinds say of their houses.
-use Rattle.std.specs.Prelude.{ℕ, ◌-◌, Bool, cond, ◌&&◌, List, ◌++◌, replicate, nat_le, nat_lt, slice_index, slice_set}
+use Rattle.std.specs.Prelude.{ℕ, ◌-◌, Bool, cond, ◌&&◌, List, ◌++◌, replicate, Ok, Result, nat_le, nat_lt, slice_index, slice_set}
+use Rattle.refusal.specs.Questions.{ask}
+use Rattle.refusal.specs.declared.Refusal.{Refusal}
+use Rattle.refusal.specs.declared.Refusal.TheVariants.{NoSealLeft, MemoryTooSmall}
 
 -- the most houses that a seal kind can have
 abbrev pub most_houses : ℕ
@@ -20,3 +23,7 @@ left_of n left i = cond (nat_lt i n) (slice_index left i) 0
 -- one less for the house
 abbrev pub spent : List ℕ → ℕ → List ℕ
 spent left i = slice_set left i (slice_index left i - 1)
+
+-- has the house a seal left? has the memory room for a seal?
+abbrev pub sign_asked : ℕ → ℕ → ℕ → Result (Unit {0}) Refusal
+sign_asked left size room = ask (nat_lt 0 left) NoSealLeft (ask (nat_le size room) MemoryTooSmall (Ok tt))

@@ -1,9 +1,8 @@
 -- What a seal kind means: which seals check, how many each house has left, and what a sign leaves.
-use Rattle.std.specs.Prelude.{◌≡◌, ℕ, ◌+◌, ◌<◌, ◌≤◌, Bool, true, false, List, length, take, drop, Ok, Err, Result, ◌≢◌, nat_le, nat_lt}
-use Rattle.refusal.specs.Questions.{ask}
+use Rattle.std.specs.Prelude.{◌≡◌, ℕ, ◌+◌, ◌<◌, ◌≤◌, Bool, true, false, List, length, take, drop, Ok, Err, Result, ◌≢◌}
 use Rattle.refusal.specs.declared.Refusal.{Refusal}
-use Rattle.refusal.specs.declared.Refusal.TheVariants.{NoSealLeft, MemoryTooSmall}
 use Rattle.seal.specs.declared.statement.Statement.{Statement}
+use Rattle.seal.specs.Houses.{sign_asked}
 
 -- the meaning of a seal kind whose states are of type S
 pub record Meaning (S : Type 0) : Type 1 where
@@ -45,9 +44,9 @@ pub record Meant {S : Type 0} (k : Meaning S) : Type 0 where
   pub goes : (s : S) (i : ℕ) (x : Statement) (m : List ℕ) → 0 < k.left s i → k.size ≤ length m → (s' : S) × ((m' : List ℕ) × k.signs s i x m s' m')
   pub sound : (s : S) (i : ℕ) (x : Statement) (m : List ℕ) (s' : S) (m' : List ℕ) → k.signs s i x m s' m' → Sealed k s i x m s' m'
 
--- has the house a seal left? has the memory room for a seal?
+-- what a sign asks, of a house and of the memory's length
 abbrev pub sign_answer : {S : Type 0} → Meaning S → S → ℕ → ℕ → Result (Unit {0}) Refusal
-sign_answer k s house room = ask (nat_lt 0 (k.left s house)) NoSealLeft (ask (nat_le k.size room) MemoryTooSmall (Ok tt))
+sign_answer k s house room = sign_asked (k.left s house) k.size room
 
 -- what a sign leaves: a taken one is a step of the kind, a refused one changes nothing
 abbrev pub Signing : {S E : Type 0} → Meaning S → Result (Unit {0}) E → ℕ → Statement → S → List ℕ → S → List ℕ → Type 0

@@ -1,13 +1,11 @@
 -- What stands in a row, and the bytes of a row's number.
-use Rattle.std.specs.Prelude.{ℕ, ◌+◌, ◌*◌, ◌/◌, ◌%◌, Bool, true, false, ◌&&◌, List, [], ◌∷◌, Some, None, Option, ◌==◌, slice_index}
+use Rattle.std.specs.Prelude.{ℕ, ◌+◌, ◌*◌, ◌/◌, ◌%◌, Bool, false, ◌&&◌, List, [], ◌∷◌, Some, None, Option, ◌==◌, slice_index}
 use Rattle.std.specs.Str.{bytes_eq}
-use Rattle.seal.specs.declared.row.Row.{Row}
-use Rattle.seal.specs.declared.row.Row.TheVariants.{Empty, Used}
+use Rattle.seal.specs.declared.entry.Entry.{Entry}
 use Rattle.seal.specs.declared.statement.Statement.{Statement}
 
-abbrev pub is_used : Row → Bool
-is_used Empty = false
-is_used (Used house statement) = true
+abbrev pub entry : ℕ → Statement → Entry
+entry house statement = record { house = house; statement = statement }
 
 -- are the two statements one?
 unfoldable pub same_statement : Statement → Statement → Bool
@@ -16,14 +14,9 @@ same_statement x y =
     && (x.house == y.house && (x.number == y.number && bytes_eq x.digest.words y.digest.words))
 
 -- is the row used, by that house on that statement?
-abbrev pub holds : Row → ℕ → Statement → Bool
-holds Empty i x = false
-holds (Used house statement) i x = house == i && same_statement statement x
-
--- the house and the statement, where the row is used
-abbrev pub entry_of : Row → Option (ℕ × Statement)
-entry_of Empty = None
-entry_of (Used house statement) = Some (house, statement)
+abbrev pub holds : Option Entry → ℕ → Statement → Bool
+holds None i x = false
+holds (Some e) i x = e.house == i && same_statement e.statement x
 
 -- how many bytes a row's number has
 abbrev pub row_size : ℕ

@@ -3,6 +3,7 @@ use Rattle.std.proofs.Common.{⊎_elim, ap, subst, arith}
 use Rattle.std.specs.Prelude.{◌≡◌, ℕ, ◌+◌, ◌-◌, ◌<◌, ◌≤◌, cond, List, length, ◌≢◌, nat_lt, slice_index}
 use Rattle.std.proofs.lemmas.List.{get_or-set_same, get_or-set_other, get_or_past}
 use Rattle.std.proofs.lemmas.Bool.{lt-ltb, le-ltb, cond-true, cond-false, cases_lt}
+use Rattle.seal.specs.declared.houses.Supply.{Supply}
 use Rattle.seal.specs.Houses.{left_of, spent}
 
 module _ (n : ℕ) (left : List ℕ) (i : ℕ) where
@@ -33,3 +34,7 @@ module _ (n : ℕ) (left : List ℕ) (i : ℕ) (had : 0 < left_of n left i) wher
 
 pub spent_others : (n : ℕ) (left : List ℕ) (i k : ℕ) → (k ≢ i) → left_of n (spent left i) k ≡ left_of n left k
 spent_others n left i k other = ap (λ (v : ℕ). cond (nat_lt k n) v 0) (get_or-set_other left i k (slice_index left i - 1) 0 other)
+
+-- what is left of a supply
+abbrev pub spent_supply : Supply → ℕ → Supply
+spent_supply y i = record { houses = y.houses; left = spent y.left i; few = y.few }

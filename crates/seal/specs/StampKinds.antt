@@ -35,20 +35,20 @@ stamp_of keys i x = digest_bytes (hmac_of_block (slice_index_or (blocks_of keys)
 
 -- a taken sign: the stamp in front, one seal less for the house
 pub record Stamped (s : Stamps) (house : ℕ) (x : Statement) (m : List ℕ) (s' : Stamps) (m' : List ℕ) : Type 0 where
-  pub had : 0 < left_of s.houses s.left house
+  pub had : 0 < left_of s.supply.houses s.supply.left house
   pub room : stamp_size ≤ length m
-  pub same_houses : s'.houses ≡ s.houses
+  pub same_houses : s'.supply.houses ≡ s.supply.houses
   pub same_keys : s'.keys ≡ s.keys
-  pub spends : s'.left ≡ spent s.left house
+  pub spends : s'.supply.left ≡ spent s.supply.left house
   pub writes : m' ≡ stamp_of s.keys house x ++ drop stamp_size m
 
 abbrev pub stamps : Meaning Stamps
 stamps =
     record {
       size = stamp_size;
-      houses = λ s. s.houses;
-      checks = λ s i x z. nat_lt i s.houses && bytes_eq z (stamp_of s.keys i x);
-      left = λ s i. left_of s.houses s.left i;
+      houses = λ s. s.supply.houses;
+      checks = λ s i x z. nat_lt i s.supply.houses && bytes_eq z (stamp_of s.keys i x);
+      left = λ s i. left_of s.supply.houses s.supply.left i;
       signs = Stamped;
     }
 
@@ -62,6 +62,6 @@ key_at keys i = take key_size (drop (key_size * i) keys)
 
 -- stamps of n houses, as they are made from their keys
 pub record Keyed (s : Stamps) (n : ℕ) (keys : List ℕ) : Type 0 where
-  pub of_houses : s.houses ≡ n
-  pub all_left : s.left ≡ shares n most_stamps
+  pub of_houses : s.supply.houses ≡ n
+  pub all_left : s.supply.left ≡ shares n most_stamps
   pub of_keys : (i : ℕ) → i < n → slice_index_or (blocks_of s.keys) i [] ≡ key_block (key_at keys i)

@@ -5,6 +5,7 @@ ghost use Rattle.seal.specs.Meanings.{Meaning, Meant, sign_answer, Signing};
 use crate::statement::Statement;
 use refusal::Refusal;
 
+// The signer and what is signed stay two parameters: a struct would be made at each call only to be taken apart.
 pub trait Seal {
     // How many bytes a seal has.
     const LEN: usize;

@@ -3,23 +3,23 @@
 
 ghost use Rattle.seal.specs.Signings.{SealsAreSigned};
 
+mod entry;
 mod houses;
 mod kind;
-mod memory;
 mod register;
-mod row;
 mod stamps;
 mod statement;
 mod table;
 
+pub use entry::Entry;
 pub use kind::Seal;
 pub use register::Register;
-pub use row::Row;
 pub use stamps::Stamps;
 pub use statement::{STATEMENT_BYTES, Statement};
 pub use table::Table;
 
 // Whatever checks in a register was signed since it was opened, by that house and on that statement.
+#[tactic(auto, using(crate::proofs::Signings::seals_are_signed))]
 pub fn register_seals_are_signed()
     ensures { SealsAreSigned }
 {}

@@ -1,28 +1,19 @@
 // Seals that are rows of a register: a seal is the number of the row that the sign used.
-ghost use Rattle.std.specs.Prelude.{◌≡◌, ℕ, ◌+◌, ◌≤◌, length, vec_len, sum, nat_lt, slice_index_or};
-ghost use Rattle.seal.specs.Houses.{most_houses};
-ghost use Rattle.seal.specs.Rows.{is_used, most_rows};
-ghost use Rattle.seal.specs.declared.row.Row.TheVariants.{Empty};
+ghost use Rattle.std.specs.Prelude.{◌+◌, ◌≤◌, vec_len, vec_capacity, sum};
+ghost use Rattle.seal.specs.Rows.{most_rows};
 
-use crate::houses::MOST_HOUSES;
-use crate::row::Row;
+use crate::entry::Entry;
+use crate::houses::Supply;
 
 mod opening;
 mod reading;
 mod sealing;
 
-// The rows are used in their order, and there is one for every seal that is left.
+// The used rows in their order. There is room for one for every seal that is left, so no sign allocates.
 #[derive(Drop)]
 pub struct Register {
-    houses: u8,
-    // How many rows are used.
-    used: usize,
-    // How many seals each house has left.
-    left: [u16; MOST_HOUSES],
-    rows: Vec<Row>,
-    ghost few: { houses ≤ most_houses },
-    ghost counted: { length left ≡ most_houses },
-    ghost room: { used + sum left ≤ vec_len rows },
-    ghost numbered: { used + sum left ≤ most_rows },
-    ghost ordered: { (k : ℕ) → is_used (slice_index_or rows.items k Empty) ≡ nat_lt k used },
+    supply: Supply,
+    entries: Vec<Entry>,
+    ghost room: { vec_len entries + sum supply.left ≤ vec_capacity entries },
+    ghost numbered: { vec_len entries + sum supply.left ≤ most_rows },
 }

@@ -1,6 +1,6 @@
 // What a house signs: which rule, whose edition, its number, and the digest of its pages.
 ghost use Rattle.std.specs.Prelude.{◌≡◌};
-ghost use Rattle.seal.specs.Statements.{laid_out, statement_bytes};
+ghost use Rattle.seal.specs.Statements.{statement_bytes};
 
 use edition::Number;
 use sha256::Digest;
@@ -18,23 +18,17 @@ pub struct Statement {
     pub digest: Digest,
 }
 
-// The four parts, one after the other.
-fn lay_out(mark: u8, house: u8, number: Number, digest: Digest) -> [u8; STATEMENT_BYTES]
-    ensures { result ≡ laid_out mark house number digest }
-{
-    let mut bytes = [0; STATEMENT_BYTES];
-    bytes[0] = mark;
-    bytes[1] = house;
-    bytes[2..4].copy_from_slice(&number.to_be_bytes());
-    bytes[4..STATEMENT_BYTES].copy_from_slice(&digest.bytes());
-    bytes
-}
-
 impl Statement {
-    // The bytes that are sealed.
+    // The bytes that are sealed: the four parts, one after the other.
+    #[tactic(auto, unfolding(crate::specs::Statements::laid_out, sha256::specs::Text::bytes32))]
     pub fn bytes(self) -> [u8; STATEMENT_BYTES]
         ensures { result ≡ statement_bytes self }
     {
-        lay_out(self.mark, self.house, self.number, self.digest)
+        let mut bytes = [0; STATEMENT_BYTES];
+        bytes[0] = self.mark;
+        bytes[1] = self.house;
+        bytes[2..4].copy_from_slice(&self.number.to_be_bytes());
+        bytes[4..].copy_from_slice(&self.digest.bytes());
+        bytes
     }
 }

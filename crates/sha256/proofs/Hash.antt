@@ -1,4 +1,6 @@
 -- Laws of the fold over blocks: one block more, and a message in two parts.
+use Rattle.std.specs.Prelude.{fold}
+use Rattle.std.specs.Simd.{first_chunks}
 use Rattle.std.proofs.Common.{◌≡◌, ℕ, zero, suc, ◌+◌, ◌*◌, ◌%◌, ◌^◌, ◌≤◌, List, [], ◌++◌, length, take, drop, sym, refl, ap, ◌∙◌, ap₂, add-zero, add-suc, zero-add, add-one, arith, length-append, length-drop}
 use Rattle.std.proofs.lemmas.List.{append_assoc, take-append-le, drop-append-le, drop-drop, drop_all, take_all, take-take, drop-take}
 use Rattle.sha256.specs.declared.state.State.{State}
@@ -97,3 +99,15 @@ sha256_after b m long =
     ∙ ap (λ (v : List ℕ). folded (folded initial b) (v ++ (m ++ end))) (sym spent)
     ∙ sym (folded_append initial b (m ++ end))
     ∙ ap (folded initial) (sym (append_assoc b m end))
+
+-- the whole blocks of a message, folded one after the other
+pub folded_blocks : (n : ℕ) (s : State) (m : List ℕ) → fold compressed s (first_chunks 64 n m) ≡ hashed n s m
+folded_blocks zero s m = sym (hashed_none s m)
+folded_blocks (suc n) s m =
+    let first = hashed_more 0 s m in
+    let none = hashed_none s m in
+    let one : hashed 1 s m ≡ compressed s (take 64 m) = cc in
+    folded_blocks n (compressed s (take 64 m)) (drop 64 m)
+    ∙ ap (λ (t : State). hashed n t (drop 64 m)) (sym one)
+    ∙ sym (hashed_split n 1 s m)
+    ∙ ap (λ (k : ℕ). hashed k s m) (omega arith)

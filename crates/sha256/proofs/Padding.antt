@@ -52,16 +52,16 @@ module _ (rest last : List ℕ) (n z k : ℕ) (long : length rest ≡ n) (eight 
       ∙ append_assoc rest (0x80 ∷ nulls z) last
 
 -- what the code's buffer holds up to the length's end
-pub padded_end : (rest first second last : List ℕ) (bits n end : ℕ)
-    → length rest ≡ n → n < 64 → end ≡ n + 1 + zeros n
+pub padded_end : (rest first second last : List ℕ) (bits n end k : ℕ)
+    → length rest ≡ n → n < 64 → end ≡ n + 1 + zeros n → k ≡ end + 8
     → first ≡ paste (nulls 128) 0 rest n → last ≡ bytes8 bits → second ≡ paste (set first n 0x80) end last (length last)
-    → take (end + 8) second ≡ rest ++ padding (zeros n) bits
+    → take k second ≡ rest ++ padding (zeros n) bits
 unfolding padding
-padded_end rest first second last bits n end long short place e f g =
+padded_end rest first second last bits n end k long short place all e f g =
     let eight : length last ≡ 8 = ap length f in
     let fits : n + 1 + zeros n + 8 + (128 - (n + 1 + zeros n + 8)) ≡ 128 = omega arith in
     let whole : second ≡ paste (set (paste (nulls 128) 0 rest n) n 0x80) (n + 1 + zeros n) last 8 = cc in
-    ap (λ (k : ℕ). take (k + 8) second) place
+    ap (λ (j : ℕ). take j second) (all ∙ ap (λ (j : ℕ). j + 8) place)
     ∙ ap (take (n + 1 + zeros n + 8)) whole
     ∙ pasted rest last n (zeros n) (128 - (n + 1 + zeros n + 8)) long eight fits
     ∙ ap (λ (v : List ℕ). rest ++ (0x80 ∷ (nulls (zeros n) ++ v))) f

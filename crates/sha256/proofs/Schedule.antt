@@ -1,6 +1,9 @@
 -- Laws of the schedule, one word at a time.
-use Rattle.std.proofs.Common.{◌≡◌, ℕ, zero, suc, ◌+◌, ◌-◌, ◌<◌, ◌≢◌, List, [], ◌∷◌, ◌++◌, length, get_or, take, set, sym, refl, ap, ◌∙◌, add-zero, add-suc, zero-add, add-one, arith}
-use Rattle.std.proofs.lemmas.List.{take_more_set, length_push, get_or-take, get_or-set_other, get_or_append_left}
+use Rattle.std.proofs.Common.{◌≡◌, ℕ, zero, suc, ◌+◌, ◌-◌, ◌<◌, ◌≢◌, List, [], ◌∷◌, ◌++◌, length, get_or, take, set, sym, refl, ap, ◌∙◌, add-zero, add-suc, zero-add, add-one, arith, drop, ◌*◌, w32}
+use Rattle.std.specs.Prelude.{slice_index}
+use Rattle.std.specs.Simd.{first_chunks}
+use Rattle.std.specs.Int.{from_be_bytes}
+use Rattle.std.proofs.lemmas.List.{drop-drop, get_or-drop, take_more_set, length_push, get_or-take, get_or-set_other, get_or_append_left}
 use Rattle.sha256.specs.Schedule.{word, words, next, extended, scheduled}
 
 pub words_none : (block : List ℕ) → words 0 block ≡ []
@@ -64,3 +67,24 @@ word_kept w m n y h e s =
     ∙ ap (λ (v : List ℕ). get_or v n 0) s
     ∙ sym (scheduled_keeps (48 - n) n n m e front)
     ∙ ap (λ (k : ℕ). get_or (scheduled k m) n 0) rest
+
+chunk_at : (n k i : ℕ) (m : List ℕ) → i < k → get_or (first_chunks n k m) i [] ≡ take n (drop (n * i) m)
+chunk_at n zero i m h = absurd (omega arith)
+chunk_at n (suc k) zero m h =
+    let place : 0 ≡ n * 0 = omega arith in
+    ap (λ (j : ℕ). take n (drop j m)) place
+chunk_at n (suc k) (suc i) m h =
+    let place : n + n * i ≡ n * suc i = omega arith in
+    chunk_at n k i (drop n m) (omega arith) ∙ ap (take n) (drop-drop (n * i) n m ∙ ap (λ (j : ℕ). drop j m) place)
+
+chunk_byte : (block : List ℕ) (n i j : ℕ) → i < n → j < 4 → slice_index (get_or (first_chunks 4 n block) i []) j ≡ slice_index block (4 * i + j)
+chunk_byte block n i j h small = ap (λ (v : List ℕ). slice_index v j) (chunk_at 4 n i block h) ∙ get_or-take 4 (drop (4 * i) block) j 0 small ∙ get_or-drop (4 * i) block j 0
+
+-- a word is read from a chunk of four bytes
+pub chunk_word : (block : List ℕ) (n i x : ℕ) (chunks : List (List ℕ)) → chunks ≡ first_chunks 4 n block → i < n → x ≡ from_be_bytes w32 (get_or chunks i []) → x ≡ word block i
+chunk_word block n i x chunks e h read =
+    let first : slice_index (get_or (first_chunks 4 n block) i []) 0 ≡ slice_index block (4 * i) = chunk_byte block n i 0 h (omega arith) ∙ ap (slice_index block) (add-zero (4 * i)) in
+    let second = chunk_byte block n i 1 h (omega arith) in
+    let third = chunk_byte block n i 2 h (omega arith) in
+    let fourth = chunk_byte block n i 3 h (omega arith) in
+    read ∙ ap (λ (v : List (List ℕ)). from_be_bytes w32 (get_or v i [])) e ∙ omega (arith, first, second, third, fourth)

@@ -10,18 +10,26 @@ ch x y z = bit_xor (bit_and x y) (bit_and (complement x) z)
 unfoldable pub maj : ℕ → ℕ → ℕ → ℕ
 maj x y z = bit_xor (bit_xor (bit_and x y) (bit_and x z)) (bit_and y z)
 
+-- the exclusive or of three rotations
+abbrev pub Σ : ℕ → ℕ → ℕ → ℕ → ℕ
+Σ a b c x = bit_xor (bit_xor (rotr a x) (rotr b x)) (rotr c x)
+
+-- the exclusive or of two rotations and a shift
+abbrev pub σ : ℕ → ℕ → ℕ → ℕ → ℕ
+σ a b n x = bit_xor (bit_xor (rotr a x) (rotr b x)) (shr n x)
+
 -- Σ0(x)
 abbrev pub Σ0 : ℕ → ℕ
-Σ0 x = bit_xor (bit_xor (rotr 2 x) (rotr 13 x)) (rotr 22 x)
+Σ0 = Σ 2 13 22
 
 -- Σ1(x)
 abbrev pub Σ1 : ℕ → ℕ
-Σ1 x = bit_xor (bit_xor (rotr 6 x) (rotr 11 x)) (rotr 25 x)
+Σ1 = Σ 6 11 25
 
 -- σ0(x)
 abbrev pub σ0 : ℕ → ℕ
-σ0 x = bit_xor (bit_xor (rotr 7 x) (rotr 18 x)) (shr 3 x)
+σ0 = σ 7 18 3
 
 -- σ1(x)
 abbrev pub σ1 : ℕ → ℕ
-σ1 x = bit_xor (bit_xor (rotr 17 x) (rotr 19 x)) (shr 10 x)
+σ1 = σ 17 19 10

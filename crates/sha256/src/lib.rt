@@ -6,7 +6,6 @@ ghost use Rattle.sha256.specs.Examples.{Examples};
 ghost use Rattle.sha256.specs.Text.{digest_of};
 
 mod block;
-mod buffer;
 mod bytes;
 mod constants;
 mod functions;
@@ -27,6 +26,7 @@ pub fn digest(pages: &[u8]) -> Digest
 }
 
 // The definitions give the published digests of the empty message, of "abc" and of a message of two blocks.
+#[tactic(auto, using(crate::proofs::Examples::examples))]
 pub fn published_examples()
     ensures { Examples }
 {}

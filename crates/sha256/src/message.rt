@@ -1,37 +1,35 @@
 // Whole messages: the blocks where they lie, then the padded end.
-ghost use Rattle.std.specs.Prelude.{◌≡◌, ◌+◌, ◌*◌, ◌^◌};
+ghost use Rattle.std.specs.Prelude.{◌≡◌, ◌+◌, ◌*◌, ◌^◌, fold};
 ghost use Rattle.sha256.specs.Constants.{initial};
 ghost use Rattle.sha256.specs.Compression.{compressed};
-ghost use Rattle.sha256.specs.Hash.{folded, resumed, sha256, paired};
+ghost use Rattle.sha256.specs.Hash.{resumed, sha256, paired};
 
 use crate::block::compress;
 use crate::state::State;
 use crate::tail::end;
 use crate::value::Digest;
 
-// Hashes the whole blocks of a message.
-fn absorb(start: State, pages: &[u8]) -> State
-    ensures { result ≡ folded start pages.now }
+// Hashes some blocks.
+fn absorb(start: State, blocks: &[[u8; 64]]) -> State
+    ensures { result ≡ fold compressed start blocks.now }
 {
-    let mut s = start;
-    for i in 0..pages.len() / 64 {
-        s = compress(s, &pages[64 * i..64 * i + 64]);
-    }
-    s
+    blocks.iter().fold(start, State::after)
 }
 
 // Hashes the rest of a message of which `before` blocks are hashed already, into `start`.
 fn resume(start: State, before: u64, rest: &[u8]) -> State
     ensures { result ≡ resumed start before rest.now }
 {
-    let s = absorb(start, rest);
+    let (blocks, last) = rest.as_chunks::<64>();
+    let s = absorb(start, blocks);
     let bits = before
         .wrapping_mul(512)
         .wrapping_add((rest.len() as u64).wrapping_mul(8));
-    end(s, &rest[rest.len() / 64 * 64..], bits)
+    end(s, last, bits)
 }
 
 // Hashes a whole message.
+#[tactic(auto, using(crate::proofs::Hash::sha256_resumed))]
 pub(crate) fn hash(pages: &[u8]) -> State
     ensures { result ≡ sha256 pages.now }
 {
@@ -41,7 +39,7 @@ pub(crate) fn hash(pages: &[u8]) -> State
 fn pair(high: u32, low: u32) -> u64
     ensures { result ≡ high * 2 ^ 32 + low }
 {
-    ((high as u64) << 32) + low as u64
+    (u64::from(high) << 32) | u64::from(low)
 }
 
 impl State {

@@ -4,7 +4,6 @@ ghost use Rattle.sha256.specs.Padding.{padding, zeros};
 ghost use Rattle.sha256.specs.Hash.{folded};
 
 use crate::block::compress;
-use crate::buffer::put;
 use crate::state::State;
 
 // Where the length stands in a block.
@@ -18,9 +17,9 @@ fn pad(rest: &[u8], bits: u64) -> [u8; 128]
 {
     let length_at = if rest.len() < ROOM { ROOM } else { ROOM + 64 };
     let mut tail = [0; 128];
-    put(&mut tail, 0, rest);
+    tail[..rest.len()].copy_from_slice(rest);
     tail[rest.len()] = 0x80;
-    put(&mut tail, length_at, &bits.to_be_bytes());
+    tail[length_at..length_at + 8].copy_from_slice(&bits.to_be_bytes());
     tail
 }
 
@@ -30,10 +29,11 @@ pub(crate) fn end(s: State, rest: &[u8], bits: u64) -> State
     ensures { result ≡ folded s (rest.now ++ padding (zeros (length rest.now)) bits) }
 {
     let tail = pad(rest, bits);
-    let first = compress(s, &tail[0..64]);
+    let (blocks, _) = tail.as_chunks::<64>();
+    let first = compress(s, &blocks[0]);
     if rest.len() < ROOM {
         first
     } else {
-        compress(first, &tail[64..128])
+        compress(first, &blocks[1])
     }
 }

@@ -3,7 +3,7 @@
 #![tactic(auto)]
 
 use sha256::digest;
-use std::io;
+use std::{array, io};
 
 // The longest message: it takes three blocks.
 const LONGEST: usize = 130;
@@ -19,18 +19,11 @@ fn published(rt: &HostRuntime) -> io::Result<()> {
     println!(rt; "million-a {}", digest(million.as_slice()))
 }
 
-// Bytes with no pattern that a block's length would fit.
-fn fill(message: &mut [u8; LONGEST]) {
-    for i in 0..LONGEST {
-        message[i] = ((37 * i + 11) % 256) as u8;
-    }
-}
-
 fn lengths(rt: &HostRuntime) -> io::Result<()> {
-    let mut message = [0; LONGEST];
-    fill(&mut message);
+    // Bytes with no pattern that a block's length would fit.
+    let message: [u8; LONGEST] = array::from_fn(|i| ((37 * i + 11) % 256) as u8);
     for n in 0..=LONGEST {
-        println!(rt; "{n} {}", digest(&message[0..n]))?;
+        println!(rt; "{n} {}", digest(&message[..n]))?;
     }
     Ok(())
 }

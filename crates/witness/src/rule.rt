@@ -1,13 +1,8 @@
-// What a witness rule is, and the bounds that every rule is opened within.
+// What a witness rule is.
 ghost use Rattle.std.specs.Prelude.{◌≡◌};
-ghost use Rattle.witness.specs.Opening.{opened};
 ghost use Rattle.witness.specs.Rules.{Ruling, Lawful};
 
 use edition::Number;
-use refusal::Refusal;
-
-// The most houses that a set of 16 bits can hold.
-const MOST_HOUSES: u8 = 16;
 
 // A witness rule. It answers for every house and number: no house is named and no set is accepted
 // for a house that is not there or for number 0.
@@ -35,18 +30,4 @@ pub trait Rule {
         ensures { result ≡ (ruling self.now).accepts house number set };
 
     ghost lawful: { (r : Self) → Lawful (ruling r) };
-}
-
-// Whether a rule can be opened.
-pub(crate) fn admit(houses: u8, faults: u8) -> Result<(), Refusal>
-    ensures { result ≡ opened houses faults }
-{
-    if houses == 0 || houses > MOST_HOUSES {
-        return Err(Refusal::HouseCount);
-    }
-    // In 16 bits, since three times a byte may not fit one.
-    if 3 * faults as u16 + 1 > houses as u16 {
-        return Err(Refusal::TooManyFaults);
-    }
-    Ok(())
 }

@@ -1,12 +1,12 @@
-use Rattle.std.proofs.Common.{sym, ap, ◌∙◌}
+use Rattle.std.proofs.Common.{rules, arith, ◌∙◌, refl}
+use Rattle.std.proofs.lemmas.Iterator.{YieldsList-from_range}
+use Rattle.std.proofs.lemmas.Iterator.Consumers.{fold_from_yields_List}
 use Rattle.measure.specs.Chains.{chained, first}
-use Rattle.measure.proofs.Chains.{chained_none, chained_more}
+use Rattle.measure.proofs.Chains.{folded}
 use Rattle.measure.proofs.chain.Goals as goal
 
-pub loop-i-init : goal.loop-i-init
-loop-i-init c = sym (chained_none c.args.key.now.block first)
-
-pub loop-i-preserved : goal.loop-i-preserved
-loop-i-preserved c =
+pub returns : goal.returns
+returns c =
+    let n = c.args.turns in
     let block = c.args.key.now.block in
-    c.turn-next.ensures ∙ ap (chained 1 block) c.loop-i.invariant ∙ sym (chained_more c.loop-i.i block first)
+    fold_from_yields_List _ (λ a x. chained 1 block a) _ _ c.fold.ensures.ran (YieldsList-from_range 0 n n refl (omega arith)) (λ a x b q k. search rules) ∙ folded n 0 block first

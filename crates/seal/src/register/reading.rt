@@ -1,37 +1,30 @@
 // Reading the rows in order.
 ghost use Rattle.std.specs.Prelude.{◌≡◌, is_some, nat_lt};
-ghost use Rattle.seal.specs.Registers.{row_at};
-ghost use Rattle.seal.specs.Rows.{entry_of, is_used};
+ghost use Rattle.seal.specs.Registers.{entries_of, used, row_at};
 
+use crate::entry::Entry;
 use crate::register::Register;
-use crate::row::Row;
-use crate::statement::Statement;
 
 impl Register {
-    // How many rows are used: those before it.
+    // The used rows in order.
+    pub fn entries(&self) -> &[Entry]
+        ensures { result.now ≡ entries_of self.now }
+    {
+        &self.entries
+    }
+
+    // How many rows are used.
     pub fn used(&self) -> usize
-        ensures { result ≡ self.now.used }
+        ensures { result ≡ used self.now }
     {
-        self.used
+        self.entries.len()
     }
 
-    // A row by its number, and an empty one past the last.
-    pub(crate) fn at(&self, i: usize) -> Row
+    // A used row by its number.
+    pub fn row(&self, i: usize) -> Option<Entry>
         ensures value { result ≡ row_at self.now i }
-        ensures test { is_used result ≡ nat_lt i self.now.used }
+        ensures test { is_some result ≡ nat_lt i (used self.now) }
     {
-        if i < self.rows.len() {
-            self.rows[i]
-        } else {
-            Row::Empty
-        }
-    }
-
-    // The house and the statement of a used row.
-    pub fn row(&self, i: usize) -> Option<(u8, Statement)>
-        ensures value { result ≡ entry_of (row_at self.now i) }
-        ensures test { is_some result ≡ nat_lt i self.now.used }
-    {
-        self.at(i).entry()
+        self.entries.get(i).copied()
     }
 }

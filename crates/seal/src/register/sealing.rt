@@ -1,25 +1,30 @@
 // Signing by the next row, and checking a row.
-ghost use Rattle.std.specs.Prelude.{◌≡◌, ◌+◌, ◌<◌, slice_set};
-ghost use Rattle.seal.specs.declared.row.Row.TheVariants.{Used};
+ghost use Rattle.std.specs.Prelude.{◌≡◌, ◌<◌, [], ◌∷◌, ◌++◌};
 ghost use Rattle.seal.specs.Houses.{left_of, spent};
-ghost use Rattle.seal.specs.Registers.{register, row_checks};
-ghost use Rattle.seal.specs.Rows.{row_bytes};
+ghost use Rattle.seal.specs.Registers.{entries_of, used, row_at, register, row_checks};
+ghost use Rattle.seal.specs.Rows.{entry, holds, row_bytes};
 ghost use Rattle.seal.specs.RegisterLaws.{register_meant};
 
-use crate::houses::left_of;
+use crate::entry::Entry;
 use crate::kind::Seal;
-use crate::memory::put;
 use crate::register::Register;
-use crate::row::Row;
 use crate::statement::Statement;
 use refusal::Refusal;
 
 impl Register {
     // The number of the next row, the most significant byte first.
     fn next_number(&self) -> [u8; 2]
-        ensures { result ≡ row_bytes self.now.used }
+        ensures { result ≡ row_bytes (used self.now) }
     {
-        [(self.used / 256) as u8, (self.used % 256) as u8]
+        (self.used() as u16).to_be_bytes()
+    }
+
+    // Whether the house signed the statement in the row.
+    #[tactic(auto, using(crate::proofs::Rows::row_is), unfolding(crate::specs::Rows::same_statement))]
+    fn holds(&self, i: usize, house: u8, statement: Statement) -> bool
+        ensures { result ≡ holds (row_at self.now i) house statement }
+    {
+        self.row(i) == Some(Entry { house, statement })
     }
 
     // Whether the seal is the number of a row that holds the house and the statement.
@@ -27,25 +32,24 @@ impl Register {
         ensures { result ≡ row_checks self.now house statement seal.now }
     {
         match seal {
-            [high, low] => self
-                .at(*high as usize * 256 + *low as usize)
-                .holds(house, statement),
+            [high, low] => {
+                let number = u16::from_be_bytes([*high, *low]);
+                self.holds(usize::from(number), house, statement)
+            }
             _ => false,
         }
     }
 
     // Uses the next row for the house, which has a seal left.
     fn enter(&mut self, house: u8, statement: Statement)
-        requires { 0 < left_of self.old.houses self.old.left house }
-        ensures houses { self.new.houses ≡ self.old.houses }
-        ensures used { self.new.used ≡ self.old.used + 1 }
-        ensures rows { self.new.rows.items ≡ slice_set self.old.rows.items self.old.used (Used house statement) }
-        ensures left { self.new.left ≡ spent self.old.left house }
+        requires { 0 < left_of self.old.supply.houses self.old.supply.left house }
+        ensures houses { self.new.supply.houses ≡ self.old.supply.houses }
+        ensures entries { entries_of self.new ≡ entries_of self.old ++ (entry house statement ∷ []) }
+        ensures left { self.new.supply.left ≡ spent self.old.supply.left house }
     {
-        let next = self.used;
-        self.rows[next] = Row::Used { house, statement };
-        self.used = next + 1;
-        self.left[house as usize] -= 1;
+        // There is room, so it does not fail.
+        let _ = self.entries.push(Entry { house, statement });
+        self.supply.spend(house);
     }
 }
 
@@ -61,25 +65,20 @@ impl Seal for Register {
     }
 
     fn houses(&self) -> u8 {
-        self.houses
+        self.supply.houses()
     }
 
     fn check(&self, house: u8, statement: Statement, seal: &[u8]) -> bool {
-        house < self.houses && self.row_checks(house, statement, seal)
+        house < self.houses() && self.row_checks(house, statement, seal)
     }
 
     fn left(&self, house: u8) -> u32 {
-        left_of(self.houses, &self.left, house)
+        self.supply.left(house)
     }
 
     fn sign(&mut self, house: u8, statement: Statement, memory: &mut [u8]) -> Result<(), Refusal> {
-        if self.left(house) == 0 {
-            return Err(Refusal::NoSealLeft);
-        }
-        if memory.len() < Self::LEN {
-            return Err(Refusal::MemoryTooSmall);
-        }
-        put(memory, &self.next_number());
+        self.supply.ask(house, Self::LEN, memory.len())?;
+        memory[..Self::LEN].copy_from_slice(&self.next_number());
         self.enter(house, statement);
         Ok(())
     }

@@ -4,28 +4,28 @@ ghost use Rattle.std.specs.Str.{bytes_eq};
 ghost use Rattle.seal.specs.StampKinds.{stamp_of, stamps};
 ghost use Rattle.seal.specs.StampLaws.{stamps_meant};
 
-use crate::houses::left_of;
 use crate::kind::Seal;
-use crate::memory::put;
 use crate::stamps::Stamps;
 use crate::statement::Statement;
 use refusal::Refusal;
 
 impl Stamps {
     // The house's stamp on the statement.
+    #[tactic(auto, using(crate::proofs::Keys::block_at))]
     fn stamp(&self, house: u8, statement: Statement) -> [u8; 32]
-        requires { house < self.now.houses }
+        requires { house < self.now.supply.houses }
         ensures { result ≡ stamp_of self.now.keys house statement }
     {
-        self.keys[house as usize].stamp(&statement.bytes()).bytes()
+        let key = &self.keys[usize::from(house)];
+        key.stamp(&statement.bytes()).bytes()
     }
 
     // Whether the seal is that stamp.
     fn stamped(&self, house: u8, statement: Statement, seal: &[u8]) -> bool
-        requires { house < self.now.houses }
+        requires { house < self.now.supply.houses }
         ensures { result ≡ bytes_eq seal.now (stamp_of self.now.keys house statement) }
     {
-        self.keys[house as usize].checks(&statement.bytes(), seal)
+        self.keys[usize::from(house)].checks(&statement.bytes(), seal)
     }
 }
 
@@ -41,26 +41,21 @@ impl Seal for Stamps {
     }
 
     fn houses(&self) -> u8 {
-        self.houses
+        self.supply.houses()
     }
 
     fn check(&self, house: u8, statement: Statement, seal: &[u8]) -> bool {
-        house < self.houses && self.stamped(house, statement, seal)
+        house < self.houses() && self.stamped(house, statement, seal)
     }
 
     fn left(&self, house: u8) -> u32 {
-        left_of(self.houses, &self.left, house)
+        self.supply.left(house)
     }
 
     fn sign(&mut self, house: u8, statement: Statement, memory: &mut [u8]) -> Result<(), Refusal> {
-        if self.left(house) == 0 {
-            return Err(Refusal::NoSealLeft);
-        }
-        if memory.len() < Self::LEN {
-            return Err(Refusal::MemoryTooSmall);
-        }
-        put(memory, &self.stamp(house, statement));
-        self.left[house as usize] -= 1;
+        self.supply.ask(house, Self::LEN, memory.len())?;
+        memory[..Self::LEN].copy_from_slice(&self.stamp(house, statement));
+        self.supply.spend(house);
         Ok(())
     }
 }

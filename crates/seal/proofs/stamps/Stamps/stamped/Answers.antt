@@ -10,6 +10,6 @@ use Rattle.seal.proofs.stamps.Stamps.stamped.Goals as goal
 pub returns : goal.returns
 returns c =
     let seal : List ℕ = c.args.seal.now in
-    let block = block_at c.args.self.now.keys c.args.house c.index-self-house.result (omega arith) in
+    let block = block_at c.args.self.now.keys c.from.result c.index-self-from.result c.from.ensures (omega arith) in
     same_from_decides c.checks.result (bytes_eq seal _) c.checks.ensures (bytes_eq-Decides seal _)
     ∙ ap (λ (v : List ℕ). bytes_eq seal v) (ap digest_bytes (ap₂ hmac_of_block block c.bytes.ensures))

@@ -1,18 +1,17 @@
-use Rattle.std.proofs.Common.{◌≡◌, ℕ, ◌+◌, ◌-◌, ◌*◌, ◌<◌, length, take, drop, ap, ◌∙◌, arith}
-use Rattle.std.proofs.lemmas.List.{length-set}
+use Rattle.std.proofs.Common.{◌≡◌, ℕ, ◌<◌, List, [], length, get_or, zero-le, sym, ap, ◌∙◌, refl, rules, arith}
+use Rattle.hmac.specs.declared.prepared.PreparedKey.{PreparedKey}
 use Rattle.hmac.specs.Key.{key_block}
-use Rattle.seal.specs.StampKinds.{key_size}
-use Rattle.seal.proofs.Keys.{ready_more}
+use Rattle.seal.proofs.Keys.{each_given, block_at, key_chunk}
 use Rattle.seal.proofs.stamps.opening.prepare.Goals as goal
 
-pub loop-i-preserved : goal.loop-i-preserved
-loop-i-preserved c =
-    let i = c.loop-i.i in
-    let keys = c.args.keys.now in
-    let prepared = c.loop-i.prepared in
-    let long = c.loop-i.invariant.0 in
-    let within : i < length prepared = omega arith in
-    let size : key_size * i + key_size - key_size * i ≡ key_size = omega arith in (
-      length-set prepared i c.new.result ∙ long,
-      ready_more prepared keys i c.new.result within (c.new.ensures ∙ ap (λ (n : ℕ). key_block (take n (drop (key_size * i) keys))) size) c.loop-i.invariant.1,
-    )
+pub returns : goal.returns
+returns c = λ i within whole.
+    let keys : List (List ℕ) = c.as_chunks.result.0.now in
+    let made : List PreparedKey = c.from_fn.result in
+    let here =
+    each_given _ _ (λ (k : ℕ) (y : PreparedKey). y.block ≡ key_block (get_or keys k [])) (λ k y q call. search rules) made 16 0 c.from_fn.ensures.items.each i zero-le within in
+    let long : i < length made = omega (arith, c.from_fn.ensures.items.long) in
+    sym (block_at made i here.0 refl long)
+    ∙ ap (λ (y : PreparedKey). y.block) here.1.1
+    ∙ here.1.0
+    ∙ ap key_block (ap (λ (v : List (List ℕ)). get_or v i []) c.as_chunks.ensures.front ∙ key_chunk c.args.keys.now i whole)

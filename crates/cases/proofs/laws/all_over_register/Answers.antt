@@ -1,7 +1,0 @@
-use Rattle.cases.proofs.Over.{all_keeps, over_register, over_unused}
-use Rattle.cases.proofs.laws.all_over_register.Goals as goal
-
-pub returns : goal.returns
-returns c =
-    let lawful = all_keeps c.args.rule.now in
-    record { law = over_register lawful; unused = over_unused lawful }

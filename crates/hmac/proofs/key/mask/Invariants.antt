@@ -1,6 +1,0 @@
-use Rattle.std.proofs.Common.{◌≡◌, length, take}
-use Rattle.hmac.specs.Key.{masked}
-use Rattle.hmac.proofs.key.mask.Given as goal
-
-abbrev pub invariant-loop-i : goal.invariant-loop-i
-invariant-loop-i l = (length l.out ≡ 64) × (take l.i l.out ≡ masked l.pad (take l.i l.block))

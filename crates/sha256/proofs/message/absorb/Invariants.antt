@@ -1,6 +1,0 @@
-use Rattle.std.proofs.Common.{◌≡◌}
-use Rattle.sha256.specs.Hash.{hashed}
-use Rattle.sha256.proofs.message.absorb.Given as goal
-
-abbrev pub invariant-loop-i : goal.invariant-loop-i
-invariant-loop-i l = l.s ≡ hashed l.i l.initial.s l.pages
