@@ -1,4 +1,5 @@
 // The library for C programs: what the crate bodunkwa answers, under the names that include/bodunkwa.h declares.
+// Each function stands twice, since C takes its names from a static library, and Rattle code its functions from another.
 #![tactic(auto)]
 
 ghost use Rattle.std.specs.Prelude.{◌≡◌};

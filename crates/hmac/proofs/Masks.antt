@@ -1,8 +1,6 @@
 -- Laws of the masked block.
-use Rattle.std.proofs.Common.{◌≡◌, ℕ, zero, suc, ◌+◌, ◌<◌, List, [], ◌∷◌, length, get_or, drop, sym, refl, ap, ◌∙◌, ap₂, subst, add-one, arith, drop-cons}
-use Rattle.std.proofs.lemmas.List.{drop_all}
-use Rattle.std.specs.Array.{MapsFrom}
-use denote.Param.Members.{Mut, Called}
+use Rattle.std.proofs.Common.{◌≡◌, ℕ, zero, suc, ◌+◌, ◌<◌, ◌≤◌, List, [], ◌∷◌, ◌++◌, length, get_or, take, drop, set, refl, ap, ◌∙◌, ap₂, arith, append-nil}
+use Rattle.std.proofs.lemmas.List.{take_all, drop_all}
 use lib.Bits.{bit_xor}
 use Rattle.hmac.specs.Key.{masked}
 
@@ -11,26 +9,30 @@ unfolding masked
 masked_length pad [] = refl
 masked_length pad (x ∷ bs) = ap suc (masked_length pad bs)
 
-masked_none : (pad : ℕ) → masked pad [] ≡ []
-unfolding masked
-masked_none pad = refl
+-- a block of which the first i bytes are masked
+abbrev pub masked_until : ℕ → ℕ → List ℕ → List ℕ
+masked_until pad i block = masked pad (take i block) ++ drop i block
 
-masked_more : (pad b : ℕ) (bs : List ℕ) → masked pad (b ∷ bs) ≡ bit_xor b pad ∷ masked pad bs
+pub masked_none : (pad : ℕ) (block : List ℕ) → block ≡ masked_until pad 0 block
 unfolding masked
-masked_more pad b bs = refl
+masked_none pad block = refl
 
--- what a closure gives that masks each byte and does not change, from the i-th byte on
-module _ {F : Type 0} (g : Mut F (ℕ × Unit {0}) ℕ) (pad : ℕ) (f : F) (masks : (x y : ℕ) (q : F) → Called g f (x, tt) y q → (y ≡ bit_xor x pad) × (q ≡ f)) (block out : List ℕ) where
-  pub masked_from : (n i : ℕ) → MapsFrom g f block out i n → length block ≡ i + n → length out ≡ i + n → drop i out ≡ masked pad (drop i block)
-  masked_from zero i ran long same =
-      drop_all i out (omega arith) ∙ sym (ap (masked pad) (drop_all i block (omega arith)) ∙ masked_none pad)
-  masked_from (suc n) i (q, x, y, read, written, call, rest) long same =
-      let room : i < length out = omega arith in
-      let within : i < length block = omega arith in
-      let here = masks x y q call in
-      let after = subst (λ (s : F). MapsFrom g s block out (i + 1) n) here.1 rest in
-      let first : drop i out ≡ get_or out i 0 ∷ drop (i + 1) out = rw (add-one, drop-cons out i 0) in
-      let given : drop i block ≡ get_or block i 0 ∷ drop (i + 1) block = rw (add-one, drop-cons block i 0) in
-      first
-      ∙ ap₂ (λ (v : ℕ) (vs : List ℕ). v ∷ vs) (written.1 0 ∙ here.0 ∙ ap (λ (v : ℕ). bit_xor v pad) (sym (read.1 0))) (masked_from n (i + 1) after (omega arith) (omega arith))
-      ∙ sym (ap (masked pad) given ∙ masked_more pad (get_or block i 0) (drop (i + 1) block))
+-- one byte more
+next_masked : (pad i : ℕ) (block : List ℕ) → i < length block → set (masked_until pad i block) i (bit_xor (get_or (masked_until pad i block) i 0) pad) ≡ masked_until pad (suc i) block
+unfolding masked
+next_masked pad i [] h = absurd (omega arith)
+next_masked pad zero (b ∷ bs) h = refl
+next_masked pad (suc i) (b ∷ bs) h = ap (λ (v : List ℕ). bit_xor b pad ∷ v) (next_masked pad i bs (omega arith))
+
+pub masked_more : (pad i : ℕ) (block items : List ℕ) → i < length block → items ≡ masked_until pad i block → set items i (bit_xor (get_or items i 0) pad) ≡ masked_until pad (i + 1) block
+masked_more pad i block items h before =
+    let next : suc i ≡ i + 1 = omega arith in
+    ap (λ (v : List ℕ). set v i (bit_xor (get_or v i 0) pad)) before
+    ∙ next_masked pad i block h
+    ∙ ap (λ (k : ℕ). masked_until pad k block) next
+
+pub masked_all : (pad i : ℕ) (block items : List ℕ) → length block ≤ i → items ≡ masked_until pad i block → items ≡ masked pad block
+masked_all pad i block items h before =
+    before
+    ∙ ap₂ (λ (v w : List ℕ). masked pad v ++ w) (take_all i block h) (drop_all i block h)
+    ∙ append-nil (masked pad block)

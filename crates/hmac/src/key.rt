@@ -33,5 +33,9 @@ pub(crate) fn block_of(key: &[u8]) -> [u8; 64]
 pub(crate) fn mask(block: &[u8; 64], pad: u8) -> [u8; 64]
     ensures { result ≡ masked pad block.now }
 {
-    block.map(|b| b ^ pad)
+    let mut out = *block;
+    for b in &mut out {
+        *b ^= pad;
+    }
+    out
 }

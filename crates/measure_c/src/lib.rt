@@ -1,4 +1,5 @@
 // What bench/ links: the crate measure under the name that it calls.
+// The function stands twice, since C takes its names from a static library, and Rattle code its functions from another.
 #![tactic(auto)]
 
 ghost use Rattle.std.specs.Prelude.{◌≡◌};

@@ -1,6 +1,7 @@
--- A digest's four words: their bytes one after the other, and how large the words are.
+-- A digest's four words: that they are equal if they are so one by one, their bytes one after the other, and how large the words are.
 use Rattle.std.proofs.Common.{◌≡◌, ℕ, zero, suc, ◌+◌, ◌/◌, ◌^◌, ◌<◌, List, [], ◌∷◌, ◌++◌, length, get_or, sym, refl, ap, ◌∙◌, subst, arith}
 use Rattle.std.specs.List.{flat_map}
+use Rattle.std.proofs.lemmas.List.{ext_get_or}
 use Rattle.sha256.specs.declared.value.Digest.{Digest}
 use Rattle.sha256.specs.declared.state.State.{State}
 use Rattle.sha256.specs.Constants.{initial}
@@ -10,6 +11,17 @@ use Rattle.sha256.specs.Hash.{hashed, sha256, paired}
 use Rattle.sha256.specs.Text.{bytes32, digest_bytes, digest_of}
 use Rattle.sha256.proofs.Padding.{padded_blocks}
 use Rattle.sha256.proofs.Hash.{hashed_more}
+
+pub same_words : (x y : List ℕ) → length x ≡ 4 → length y ≡ 4
+    → get_or x 0 0 ≡ get_or y 0 0 → get_or x 1 0 ≡ get_or y 1 0 → get_or x 2 0 ≡ get_or y 2 0 → get_or x 3 0 ≡ get_or y 3 0 → x ≡ y
+same_words x y four other a b c d = ext_get_or 0 x y (four ∙ sym other) each
+  where
+    each : (i : ℕ) → i < length x → get_or x i 0 ≡ get_or y i 0
+    each zero h = a
+    each (suc zero) h = b
+    each (suc (suc zero)) h = c
+    each (suc (suc (suc zero))) h = d
+    each (suc (suc (suc (suc i)))) h = absurd (omega arith)
 
 pub four_words : (a b c d : ℕ) (rows : List (List ℕ)) → length rows ≡ 4
     → get_or rows 0 [] ≡ bytes8 a → get_or rows 1 [] ≡ bytes8 b → get_or rows 2 [] ≡ bytes8 c → get_or rows 3 [] ≡ bytes8 d
