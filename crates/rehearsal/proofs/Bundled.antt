@@ -8,10 +8,11 @@ use Rattle.refusal.specs.declared.Refusal.TheVariants.{StationHouse, NoSuchHouse
 use Rattle.refusal.specs.declared.Refused.{Refused}
 use Rattle.sha256.specs.declared.value.Digest.{Digest}
 use Rattle.witness.specs.Rules.{Ruling}
+use Rattle.seal.specs.declared.entry.Entry.{Entry}
 use Rattle.seal.specs.declared.register.Register.{Register}
 use Rattle.seal.specs.declared.statement.Statement.{Statement}
-use Rattle.seal.specs.Registers.{register, row_at}
-use Rattle.seal.specs.Rows.{entry_of, row_bytes, same_statement}
+use Rattle.seal.specs.Registers.{register, row_at, used}
+use Rattle.seal.specs.Rows.{row_bytes, same_statement}
 use Rattle.exchange.specs.declared.gathering.Gathering.{Gathering}
 use Rattle.exchange.specs.declared.gathering.Closed.{Closed}
 use Rattle.exchange.specs.Layout.{head_length, head_bytes, receipt_at, receipt_length, bundle_house, bundle_number}
@@ -51,17 +52,17 @@ either_alike true g m x y taken e = taken e
 either_alike false g m x y taken e = same_alike g m y e
 
 module _ (r : Ruling) (q : Register) (x : Statement) where
-  row_alike : (i : ℕ) (o : Option (ℕ × Statement)) (g : Gathering) (m : List ℕ) (y : Gathering × List ℕ) → row_step r q x i o g m ≡ Ok y → Alike g y.0
+  row_alike : (i : ℕ) (o : Option Entry) (g : Gathering) (m : List ℕ) (y : Gathering × List ℕ) → row_step r q x i o g m ≡ Ok y → Alike g y.0
   row_alike i None g m y e = same_alike g m y e
   row_alike i (Some p) g m y e =
-      either_alike (same_statement p.1 x) g m _ y (add_alike (add_answer r register q g p.0 (row_bytes i) (length m)) g p.0 _ y) e
+      either_alike (same_statement p.statement x) g m _ y (add_alike (add_answer r register q g p.house (row_bytes i) (length m)) g p.house _ y) e
 
   rows_alike : (n i : ℕ) (g : Gathering) (m : List ℕ) (y : Gathering × List ℕ) → rows_from r q x n i g m ≡ Ok y → Alike g y.0
   unfolding rows_from
   rows_alike zero i g m y e = same_alike g m y e
   rows_alike (suc n) i g m y e =
-      let on = went_on (row_step r q x i (entry_of (row_at q i)) g m) (λ y. rows_from r q x n (i + 1) y.0 y.1) y e in
-      let one = row_alike i (entry_of (row_at q i)) g m on.0 on.1.0 in
+      let on = went_on (row_step r q x i (row_at q i) g m) (λ y. rows_from r q x n (i + 1) y.0 y.1) y e in
+      let one = row_alike i (row_at q i) g m on.0 on.1.0 in
       let rest = rows_alike n (i + 1) on.0.0 on.0.1 y on.1.1 in
       (rest.0 ∙ one.0, rest.1 ∙ one.1)
 
@@ -108,14 +109,14 @@ pub bundle_alike : (r : Ruling) (q : Register) (j k : ℕ) (d : Digest) (m : Lis
 bundle_alike r q j k d m y e =
     let a = went_on (untold (start_answer r j k d)) _ y e in
     let g = a.0 in
-    let b = went_on (untold (rows_from r q (statement_of r j k d) q.used 0 g m)) _ y a.1.1 in
+    let b = went_on (untold (rows_from r q (statement_of r j k d) (used q) 0 g m)) _ y a.1.1 in
     let z = b.0 in
     let c = went_on (kept (close_answer r z.0)) _ y b.1.1 in
     let closed = c.0 in
     let i = went_on (kept (issue_answer register closed (length z.1))) _ y c.1.1 in
     let n = i.0 in
     let started = start_alike r j k d g (told_taken _ g a.1.0) in
-    let gathered = rows_alike r q (statement_of r j k d) q.used 0 g m z (told_taken _ z b.1.0) in
+    let gathered = rows_alike r q (statement_of r j k d) (used q) 0 g m z (told_taken _ z b.1.0) in
     let whole = close_alike r z.0 closed (kept_taken _ closed c.1.0) in
     let headed = issue_headed r closed z.1 n (kept_taken _ n i.1.0) in
     let is : y ≡ (n, issue_memory r register closed z.1) = let p = i.1.1 in cc in

@@ -8,7 +8,7 @@ use Rattle.sha256.specs.Text.{digest_of}
 use Rattle.witness.specs.Rules.{Ruling}
 use Rattle.seal.specs.declared.register.Register.{Register}
 use Rattle.seal.specs.Meanings.{Signing}
-use Rattle.seal.specs.Registers.{register}
+use Rattle.seal.specs.Registers.{register, used}
 use Rattle.exchange.specs.declared.station.Station.{Station}
 use Rattle.exchange.specs.Machine.{go_on, statement_of, announce_answer, announce_station, note_answer, note_station, file_answer, file_station}
 use Rattle.rehearsal.specs.declared.events.Call.{Call}
@@ -46,7 +46,7 @@ announce_stations r stations e =
 abbrev pub note_outcome : Ruling → Register → List Station → Meant → Result ℕ Refusal
 note_outcome r s stations e =
     go_on (station_place r.houses e.at)
-    (λ at. told (λ _. s.used) (note_answer r register s (station_at stations at) e.house e.number (digest_of e.text) 2))
+    (λ at. told (λ _. used s) (note_answer r register s (station_at stations at) e.house e.number (digest_of e.text) 2))
 
 abbrev pub note_stations : Ruling → Register → List Station → Meant → List Station
 note_stations r s stations e =

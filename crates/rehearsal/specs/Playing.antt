@@ -1,5 +1,5 @@
 -- A whole rehearsal: its event lines played one after the other, the report, and what the exchange's law says of it.
-use Rattle.std.specs.Prelude.{◌≡◌, ℕ, ◌+◌, ◌*◌, ◌<◌, Bool, true, false, cond, ◌&&◌, ◌⊎◌, List, [], ◌∷◌, ◌++◌, length, replicate, Some, None, Ok, Err, vec_items, Option, Result, ◌==◌}
+use Rattle.std.specs.Prelude.{◌≡◌, ℕ, ◌+◌, ◌*◌, ◌<◌, Bool, true, false, cond, ◌&&◌, ◌⊎◌, List, [], ◌∷◌, ◌++◌, length, Some, None, Ok, Err, vec_capacity, Option, Result, ◌==◌}
 use Rattle.refusal.specs.declared.Refusal.{Refusal}
 use Rattle.refusal.specs.declared.Refusal.TheVariants.{BadLine}
 use Rattle.sha256.specs.Text.{digest_of}
@@ -8,7 +8,6 @@ use Rattle.witness.specs.Opening.{opened}
 use Rattle.witness.specs.Rotating.{rotating_ruling}
 use Rattle.witness.specs.Rules.{Ruling}
 use Rattle.seal.specs.declared.register.Register.{Register}
-use Rattle.seal.specs.declared.row.Row.TheVariants.{Empty}
 use Rattle.seal.specs.declared.table.Table.{Table}
 use Rattle.seal.specs.Registers.{Begun}
 use Rattle.exchange.specs.declared.station.Station.{Station}
@@ -46,7 +45,7 @@ rows_each = 64
 -- the opening with n houses: a register of empty rows, so many for each house, and fresh stations
 pub record Opens (n : ℕ) (s : Register) (stations : List Station) : Type 0 where
   pub table : Table
-  pub rows : vec_items table.rows ≡ replicate (rows_each * n) Empty
+  pub rows : vec_capacity table.entries ≡ rows_each * n
   pub begun : Begun s n rows_each table
   pub fresh : Fresh stations
 

@@ -1,5 +1,5 @@
 // Lines, and the fields of a line.
-ghost use Rattle.std.specs.Prelude.{◌≡◌, ◌<◌, ◌==◌, min, length, position, IfSome, Some, None, MatchOption};
+ghost use Rattle.std.specs.Prelude.{◌≡◌, [], ◌∷◌, ◌<◌, ◌==◌, min, length, position, IfSome, Some, None, MatchOption};
 ghost use Rattle.rehearsal.specs.Fields.{cut_at, read_on, zero_in_front, number_of_field, all_printable, text_field};
 
 pub(crate) const LINE_END: u8 = b'\n';
@@ -8,8 +8,6 @@ pub(crate) const SPACE: u8 = b' ';
 
 // The most bytes that a text may have.
 const MOST_TEXT: usize = 64;
-// The largest number that a field may be.
-const MOST_NUMBER: u32 = 65_535;
 
 // Where a byte first stands.
 fn place_of(bytes: &[u8], byte: u8) -> Option<usize>
@@ -28,21 +26,27 @@ pub(crate) fn cut(bytes: &[u8], byte: u8) -> Option<(&[u8], &[u8])>
     Some((&bytes[..place], &bytes[place + 1..]))
 }
 
+// A number with one more digit after it.
+fn with_digit(value: u16, byte: u8) -> Option<u16>
+    ensures { result ≡ read_on value (byte ∷ []) }
+{
+    if !byte.is_ascii_digit() {
+        return None;
+    }
+    value.checked_mul(10)?.checked_add(u16::from(byte - b'0'))
+}
+
 // The number that digits are, which may begin with 0, if it is not too large.
+// No `try_fold`: its contract says what each call gave, and the check finds no proof of what all of them come to.
+#[tactic(auto, using(crate::proofs::Steps::read_step, crate::proofs::Steps::read_end))]
 fn digits(field: &[u8]) -> Option<u16>
     ensures { result ≡ read_on 0 field.now }
 {
-    let mut value = 0u32;
+    let mut value = 0;
     for byte in field {
-        if !byte.is_ascii_digit() {
-            return None;
-        }
-        value = value * 10 + u32::from(*byte - b'0');
-        if value > MOST_NUMBER {
-            return None;
-        }
+        value = with_digit(value, *byte)?;
     }
-    Some(value as u16)
+    Some(value)
 }
 
 // Whether a 0 stands in front of something.

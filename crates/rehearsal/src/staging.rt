@@ -1,10 +1,10 @@
 // The exchange of a rehearsal with a station for each house, and the calls played on them.
-ghost use Rattle.std.specs.Prelude.{◌≡◌, ◌<◌, ◌≤◌, [], min, length, IfOk, Ok, Err, MatchOption, MatchResult};
+ghost use Rattle.std.specs.Prelude.{◌≡◌, ◌<◌, ◌≤◌, [], min, length, IfOk, Ok, Err, MatchOption, MatchResult, Some};
 ghost use Rattle.std.specs.Iterator.{at_most};
 ghost use Rattle.std.specs.Option.{option_map};
 ghost use Rattle.sha256.specs.Text.{digest_of};
-ghost use Rattle.seal.specs.Registers.{row_at};
-ghost use Rattle.seal.specs.Rows.{entry_of, row_bytes};
+ghost use Rattle.seal.specs.Registers.{used};
+ghost use Rattle.seal.specs.Rows.{row_bytes};
 ghost use Rattle.exchange.specs.Stations.{fresh_station};
 ghost use Rattle.rehearsal.specs.Bundles.{row_step, rows_from, bundle_of};
 ghost use Rattle.rehearsal.specs.Calls.{station_place, announce_outcome, announce_stations, note_outcome, note_stations, NoteLeft, file_outcome, file_stations, Gave, stations_after, Left, shown_event, TakesLine};
@@ -16,7 +16,7 @@ use crate::fields::{LINE_END, capped, cut};
 use crate::report::{Line, Shown};
 use exchange::{Exchange, Gathering, Notice, Station};
 use refusal::{Refusal, Refused};
-use seal::{Register, Seal, Statement, Table};
+use seal::{Entry, Register, Seal, Statement, Table};
 use sha256::digest;
 use std::alloc::{AllocError, Global};
 use std::array;
@@ -101,7 +101,7 @@ impl<R: Rule + Drop> Stage<R> {
         ensures opens { IfOk result (λ s. Opens (R.Rule.ruling rule).houses s.exchange.seal s.stations) }
     {
         let houses = rule.houses();
-        let table = Table::new(heap, ROWS_EACH * houses as usize)?;
+        let table = Table::new(heap, ROWS_EACH * usize::from(houses))?;
         Ok(Stage {
             exchange: Exchange::open(rule, Register::new(houses, table)),
             stations: fresh_stations(),
@@ -114,7 +114,7 @@ impl<R: Rule + Drop> Stage<R> {
         ensures bound { IfOk result (λ at. at < 16) }
     {
         if house < u16::from(self.exchange.rule().houses()) {
-            Ok(house as usize)
+            Ok(usize::from(house))
         } else {
             Err(Refusal::StationHouse)
         }
@@ -130,7 +130,7 @@ impl<R: Rule + Drop> Stage<R> {
             .exchange
             .announce(&mut self.stations[at], pages)
             .map_err(|refused| refused.refusal)?;
-        Ok(number as usize)
+        Ok(usize::from(number))
     }
 
     fn note(&mut self, at: u16, named: Named, text: &[u8]) -> Result<usize, Refusal>
@@ -149,26 +149,25 @@ impl<R: Rule + Drop> Stage<R> {
         Ok(row)
     }
 
-    // Adds the receipt of a row if it holds the statement; its seal is the row's number.
+    // Adds the receipt of row i if it holds the statement; its seal is the row's number.
     #[tactic(auto, unfolding(seal::specs::Rows::same_statement))]
     fn add_row(
         &self,
         i: usize,
+        row: Entry,
         statement: Statement,
         gathering: &mut Gathering,
         memory: &mut [u8],
     ) -> Result<(), Refused>
-        requires { i < self.now.exchange.seal.used }
+        requires { i < 65536 }
         ensures { MatchResult result
-            (λ _. row_step (R.Rule.ruling self.now.exchange.rule) self.now.exchange.seal statement i (entry_of (row_at self.now.exchange.seal i)) gathering.old memory.old ≡ Ok (gathering.new, memory.new))
-            (λ e. row_step (R.Rule.ruling self.now.exchange.rule) self.now.exchange.seal statement i (entry_of (row_at self.now.exchange.seal i)) gathering.old memory.old ≡ Err e) }
+            (λ _. row_step (R.Rule.ruling self.now.exchange.rule) self.now.exchange.seal statement i (Some row) gathering.old memory.old ≡ Ok (gathering.new, memory.new))
+            (λ e. row_step (R.Rule.ruling self.now.exchange.rule) self.now.exchange.seal statement i (Some row) gathering.old memory.old ≡ Err e) }
     {
-        match self.exchange.seal().row(i) {
-            Some((house, signed)) if signed == statement => {
-                self.exchange.add(gathering, house, &seal_of(i), memory)
-            }
-            _ => Ok(()),
+        if row.statement != statement {
+            return Ok(());
         }
+        self.exchange.add(gathering, row.house, &seal_of(i), memory)
     }
 
     // Adds the receipts of all rows that hold the statement, in their order.
@@ -179,12 +178,12 @@ impl<R: Rule + Drop> Stage<R> {
         memory: &mut [u8],
     ) -> Result<(), Refused>
         ensures { MatchResult result
-            (λ _. rows_from (R.Rule.ruling self.now.exchange.rule) self.now.exchange.seal statement self.now.exchange.seal.used 0 gathering.old memory.old ≡ Ok (gathering.new, memory.new))
-            (λ e. rows_from (R.Rule.ruling self.now.exchange.rule) self.now.exchange.seal statement self.now.exchange.seal.used 0 gathering.old memory.old ≡ Err e) }
+            (λ _. rows_from (R.Rule.ruling self.now.exchange.rule) self.now.exchange.seal statement (used self.now.exchange.seal) 0 gathering.old memory.old ≡ Ok (gathering.new, memory.new))
+            (λ e. rows_from (R.Rule.ruling self.now.exchange.rule) self.now.exchange.seal statement (used self.now.exchange.seal) 0 gathering.old memory.old ≡ Err e) }
     {
-        let used = self.exchange.seal().used();
-        for i in 0..used {
-            self.add_row(i, statement, gathering, memory)?;
+        let rows = self.exchange.seal().entries();
+        for (i, row) in rows.iter().enumerate() {
+            self.add_row(i, *row, statement, gathering, memory)?;
         }
         Ok(())
     }
@@ -228,7 +227,7 @@ impl<R: Rule + Drop> Stage<R> {
             .exchange
             .file(&mut self.stations[at], &memory[..length], text)
             .map_err(|refused| refused.refusal)?;
-        Ok(filing.signers as usize)
+        Ok(usize::from(filing.signers))
     }
 
     // Runs an event line, or what stands for one that is not ended.

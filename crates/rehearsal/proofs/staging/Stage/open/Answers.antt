@@ -14,5 +14,5 @@ returns g c =
       rule = ap (λ x. x.rule) c.open.ensures.value;
       opens =
           subst₂ (λ (x : ℕ) (s : Register). Opens x s c.fresh_stations.result) c.houses-houses.ensures (sym (ap (λ x. x.seal) c.open.ensures.value))
-          (opens_with n c.in_ok-table.table c.new-2.result c.fresh_stations.result least most c.in_ok-table.ensures c.new-2.ensures c.fresh_stations.ensures);
+          (opens_with n c.in_ok-table.table c.new-2.result c.fresh_stations.result least most (c.in_ok-table.ensures ∙ ap (λ (x : ℕ). 64 * x) c.from.ensures) c.new-2.ensures c.fresh_stations.ensures);
     }
