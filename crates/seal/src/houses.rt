@@ -56,13 +56,8 @@ impl Supply {
         ensures answer { result ≡ sign_asked (left_of self.now.houses self.now.left house) size room }
         ensures taken { OnOk result ((0 < left_of self.now.houses self.now.left house) × (size ≤ room)) }
     {
-        if self.left(house) == 0 {
-            return Err(Refusal::NoSealLeft);
-        }
-        if room < size {
-            return Err(Refusal::MemoryTooSmall);
-        }
-        Ok(())
+        Refusal::NoSealLeft.unless(self.left(house) > 0)?;
+        Refusal::MemoryTooSmall.unless(size <= room)
     }
 
     // One seal less for the house, which has one left.

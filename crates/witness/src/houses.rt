@@ -25,13 +25,9 @@ impl Houses {
           | Err refusal ↦ opened count faults ≡ Err refusal
         ] }
     {
-        if count == 0 || count > MOST_HOUSES {
-            return Err(Refusal::HouseCount);
-        }
+        Refusal::HouseCount.unless(count >= 1 && count <= MOST_HOUSES)?;
         // In 16 bits, since three times a byte may not fit one.
-        if 3 * u16::from(faults) + 1 > u16::from(count) {
-            return Err(Refusal::TooManyFaults);
-        }
+        Refusal::TooManyFaults.unless(3 * u16::from(faults) + 1 <= u16::from(count))?;
         Ok(Houses { count, faults })
     }
 }

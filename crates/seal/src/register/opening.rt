@@ -18,12 +18,8 @@ fn supply_of(houses: u8, rows: usize) -> Result<Supply, Refusal>
     ensures opens { Opens (register_asked houses rows) (Shared houses (rows / houses)) result }
     ensures room { IfOk result (λ y. (sum y.left ≤ rows) × (sum y.left ≤ most_rows)) }
 {
-    if !houses_fit(houses) {
-        return Err(Refusal::HouseCount);
-    }
-    if rows < usize::from(houses) || rows > MOST_ROWS {
-        return Err(Refusal::SealMemory);
-    }
+    Refusal::HouseCount.unless(houses_fit(houses))?;
+    Refusal::SealMemory.unless(usize::from(houses) <= rows && rows <= MOST_ROWS)?;
     Ok(Supply::share(houses, (rows / usize::from(houses)) as u16))
 }
 

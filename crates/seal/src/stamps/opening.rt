@@ -21,12 +21,8 @@ const MOST: u16 = 65_535;
 fn supply_of(houses: u8, bytes: usize) -> Result<Supply, Refusal>
     ensures { Opens (stamps_asked houses bytes) (Shared houses most_stamps) result }
 {
-    if !houses_fit(houses) {
-        return Err(Refusal::HouseCount);
-    }
-    if bytes != KEY * usize::from(houses) {
-        return Err(Refusal::SealMemory);
-    }
+    Refusal::HouseCount.unless(houses_fit(houses))?;
+    Refusal::SealMemory.unless(bytes == KEY * usize::from(houses))?;
     Ok(Supply::share(houses, MOST))
 }
 

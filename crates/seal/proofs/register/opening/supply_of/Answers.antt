@@ -1,5 +1,6 @@
-use Rattle.std.proofs.Common.{◌≡◌, ◌*◌, ◌/◌, sum, ap, ◌∙◌, arith}
+use Rattle.std.proofs.Common.{◌≡◌, ◌*◌, ◌/◌, ◌≤◌, rules, sum, ap, ◌∙◌, arith}
 use Rattle.std.proofs.Math.Nat.{mul-div-le}
+use Rattle.seal.specs.Rows.{most_rows}
 use Rattle.seal.proofs.Shares.{shares_sum}
 use Rattle.seal.proofs.register.opening.supply_of.Goals as goal
 
@@ -9,4 +10,5 @@ returns-clause-room c =
     let rows = c.args.rows in
     let all : sum c.share.result.left ≡ n * (rows / n) = ap sum c.share.ensures.left ∙ shares_sum n (rows / c.from-2.result) ∙ ap (λ v. n * (rows / v)) c.from-2.ensures in
     let part = mul-div-le rows n in
+    let fits : rows ≤ most_rows = search rules in
     (omega arith, omega arith)
