@@ -47,7 +47,7 @@ impl<R: Rule, S: Seal> Exchange<R, S> {
     {
         let statement = self.statement(gathering.notice);
         self.admits(statement, house, gathering.gathered)?;
-        let size = S::seal_len();
+        let size = S::LEN;
         Refusal::SealLength.unless(seal.len() == size)?;
         Refusal::SealFails.unless(self.seal.check(house, statement, seal))?;
         let count = u16::from(gathering.count());
@@ -75,7 +75,7 @@ impl<R: Rule, S: Seal> Exchange<R, S> {
         ensures memory { memory.new ≡ issue_memory (R.Rule.ruling self.now.rule) S.Seal.meaning closed memory.old }
     {
         let count = closed.whole.count();
-        let length = receipt_at(S::seal_len(), u16::from(count));
+        let length = receipt_at(S::LEN, u16::from(count));
         if memory.len() < length {
             return Err((Refused::new(Refusal::MemoryTooSmall), closed));
         }

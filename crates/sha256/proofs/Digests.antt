@@ -1,4 +1,4 @@
--- A digest's four words: that they are equal if they are so one by one, their bytes one after the other, and how large the words are.
+-- A digest's four words: they are equal if they are one by one; their bytes one after the other; how large they are.
 use Rattle.std.proofs.Common.{◌≡◌, ℕ, zero, suc, ◌+◌, ◌/◌, ◌^◌, ◌<◌, List, [], ◌∷◌, ◌++◌, length, get_or, sym, refl, ap, ◌∙◌, subst, arith}
 use Rattle.std.specs.List.{flat_map}
 use Rattle.std.proofs.lemmas.List.{ext_get_or}

@@ -2,7 +2,7 @@
 ghost use Rattle.std.specs.Prelude.{◌≡◌, ◌<◌, [], ◌∷◌, ◌++◌};
 ghost use Rattle.seal.specs.Houses.{left_of, spent};
 ghost use Rattle.seal.specs.Registers.{entries_of, used, row_at, register, row_checks};
-ghost use Rattle.seal.specs.Rows.{entry, holds, row_bytes};
+ghost use Rattle.seal.specs.Rows.{row_size, entry, holds, row_bytes};
 ghost use Rattle.seal.specs.RegisterLaws.{register_meant};
 
 use crate::entry::Entry;
@@ -56,13 +56,13 @@ impl Register {
 impl Seal for Register {
     const LEN: usize = 2;
 
+    ghost LEN = { row_size };
+
     ghost meaning = { register };
 
     ghost meant = { register_meant };
 
-    fn seal_len() -> usize {
-        Self::LEN
-    }
+    ghost sized = { λ _. row_size };
 
     fn houses(&self) -> u8 {
         self.supply.houses()

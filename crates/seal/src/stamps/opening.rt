@@ -17,7 +17,7 @@ const KEY: usize = 32;
 // How many seals each house begins with.
 const MOST: u16 = 65_535;
 
-// For each house the most seals, if stamps can be made from so many key bytes.
+// For each house the most seals, if stamps can be made from so many key bytes. Like a register's but for the question and the share: one function for both would take them as two closures, and be no plainer.
 fn supply_of(houses: u8, bytes: usize) -> Result<Supply, Refusal>
     ensures { Opens (stamps_asked houses bytes) (Shared houses most_stamps) result }
 {

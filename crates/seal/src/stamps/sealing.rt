@@ -1,7 +1,7 @@
 // Stamping and checking stamps.
 ghost use Rattle.std.specs.Prelude.{◌≡◌, ◌<◌};
 ghost use Rattle.std.specs.Str.{bytes_eq};
-ghost use Rattle.seal.specs.StampKinds.{stamp_of, stamps};
+ghost use Rattle.seal.specs.StampKinds.{stamp_size, stamp_of, stamps};
 ghost use Rattle.seal.specs.StampLaws.{stamps_meant};
 
 use crate::kind::Seal;
@@ -32,13 +32,13 @@ impl Stamps {
 impl Seal for Stamps {
     const LEN: usize = 32;
 
+    ghost LEN = { stamp_size };
+
     ghost meaning = { stamps };
 
     ghost meant = { stamps_meant };
 
-    fn seal_len() -> usize {
-        Self::LEN
-    }
+    ghost sized = { λ _. stamp_size };
 
     fn houses(&self) -> u8 {
         self.supply.houses()

@@ -46,7 +46,7 @@ returns-in_err-unless-5 g c =
     ap₂ same_digest (sym (ap (λ (y : Statement). y.digest) read)) (sym c.digest.ensures) ∙ sym equal ∙ (asked _ _ _ _ (sym c.in_ok-unless-4.ensures)).0 in
     let no = denied _ _ _ _ (sym c.in_err-unless-5.ensures) in
     let other : eqb (length b) (receipt_at k.size (bundle_count b)) ≡ false =
-    ap (λ (n : ℕ). eqb (length b) n) (sym (c.receipt_at-length.ensures ∙ ap₂ receipt_at c.seal_len.ensures (c.from-2.ensures ∙ count))) ∙ no.0 in
+    ap (λ (n : ℕ). eqb (length b) n) (sym (c.receipt_at-length.ensures ∙ ap₂ receipt_at (c.LEN.ensures ∙ sym g.met.S.Seal.sized) (c.from-2.ensures ∙ count))) ∙ no.0 in
     let refused = other_length r k c.args.station.now b p member (asked _ _ _ _ (sym c.in_ok-admit.ensures)).0 (le-leb _ _ long) marked housed
     _ _ _ (c.from.ensures ∙ house) (ap (λ (y : Statement). y.number) read) (sym c.in_ok-is_next.ensures) same other in
     let exit = err_from_is_err_and c.from_residual-in_err-unless-5.result c.from_residual-in_err-unless-5.ensures.1 in
