@@ -1,5 +1,5 @@
 -- What the exchange's answers come to in a rehearsal.
-use Rattle.std.proofs.Common.{◌≡◌, ℕ, ◌<◌, ◌≤◌, min, ◌⊎◌, List, take, set, replicate, Ok, Err, Result, sym, ap, ◌∙◌, inl, inr, arith, le-ltb, ltb, [], ◌∷◌, subst, ap₂, subst₂, ltb-true}
+use Rattle.std.proofs.Common.{◌≡◌, ℕ, ◌<◌, ◌≤◌, min, ◌⊎◌, List, take, set, replicate, Ok, Err, Result, sym, ap, ◌∙◌, inl, inr, arith, le-ltb, ltb, [], ◌∷◌, subst, ltb-true}
 use Rattle.std.proofs.lemmas.Bool.Decides.{nat_tests, leb_tells}
 use Rattle.refusal.specs.Questions.{after, whole}
 use Rattle.refusal.specs.declared.Refusal.{Refusal}
@@ -12,6 +12,7 @@ use Rattle.witness.specs.Rules.{Ruling}
 use Rattle.seal.specs.declared.register.Register.{Register}
 use Rattle.seal.specs.Meanings.{Signing}
 use Rattle.seal.specs.Registers.{register}
+use Rattle.exchange.specs.declared.notice.Notice.{Notice}
 use Rattle.exchange.specs.declared.station.Station.{Station}
 use Rattle.exchange.specs.declared.filing.Filing.{Filing}
 use Rattle.exchange.specs.Machine.{go_on, note_answer, file_answer, statement_of, note_questions, file_station}
@@ -19,6 +20,10 @@ use Rattle.exchange.proofs.Questions.{asked, went_on}
 use Rattle.rehearsal.specs.Events.{Meant}
 use Rattle.rehearsal.specs.Bundles.{bundle_of}
 use Rattle.rehearsal.specs.Calls.{station_place, station_at, told, file_outcome, NoteLeft, file_stations}
+
+-- the notice that an event stands for, its house in a byte
+abbrev pub noticed : Meant → Notice
+noticed e = record { house = min e.house 255; number = e.number; digest = digest_of e.text }
 
 -- a number above 255 is no house, and no more is 255
 pub capped_cases : (h : ℕ) → (min h 255 ≡ h) ⊎ ((min h 255 ≡ 255) × (255 < h))
@@ -51,17 +56,17 @@ note_names r q s h k d (Ok t) own m m' q' few is signing =
 note_names r q s h k d (Err x) own m m' q' few is signing = signing
 
 -- the register after a note
-pub note_signed : (r : Ruling) (q : Register) (ss : List Station) (e : Meant) (at j : ℕ) (d : Digest) (a : Result (Unit {0}) Refused) (q' : Register) (m : List ℕ) → r.houses ≤ 16
-    → Ok at ≡ station_place r.houses e.at → j ≡ min e.house 255 → d ≡ digest_of e.text → a ≡ note_answer r register q (station_at ss at) j e.number d 2
-    → Signing register a (station_at ss at).house (statement_of r j e.number d) q (0 ∷ 0 ∷ []) q' m → NoteLeft r q ss e (station_place r.houses e.at) q'
-note_signed r q ss e at j d a q' m few here house digest is signing =
+pub note_signed : (r : Ruling) (q : Register) (ss : List Station) (e : Meant) (at : ℕ) (w : Notice) (a : Result (Unit {0}) Refused) (q' : Register) (m : List ℕ) → r.houses ≤ 16
+    → Ok at ≡ station_place r.houses e.at → w ≡ noticed e → a ≡ note_answer r register q (station_at ss at) w.house w.number w.digest 2
+    → Signing register a (station_at ss at).house (statement_of r w.house w.number w.digest) q (0 ∷ 0 ∷ []) q' m → NoteLeft r q ss e (station_place r.houses e.at) q'
+note_signed r q ss e at w a q' m few here names is signing =
     let s = station_at ss at in
-    let named : Result (Unit {0}) Refused → ℕ → Digest → Type 0 = λ a i x. Signing register a s.house (statement_of r i e.number x) q (0 ∷ 0 ∷ []) q' m in
     let own = digest_of e.text in
-    let answer : a ≡ note_answer r register q s (min e.house 255) e.number own 2 = is ∙ ap₂ (λ (i : ℕ) (x : Digest). note_answer r register q s i e.number x 2) house digest in
-    let signs = note_names r q s e.house e.number own a s.house (0 ∷ 0 ∷ []) m q' few answer (subst₂ (named a) house digest signing) in
+    let signed : Result (Unit {0}) Refused → Notice → Type 0 = λ a x. Signing register a s.house (statement_of r x.house x.number x.digest) q (0 ∷ 0 ∷ []) q' m in
+    let answer : a ≡ note_answer r register q s (min e.house 255) e.number own 2 = is ∙ ap (λ (x : Notice). note_answer r register q s x.house x.number x.digest 2) names in
+    let signs = note_names r q s e.house e.number own a s.house (0 ∷ 0 ∷ []) m q' few answer (subst (signed a) names signing) in
     subst (λ (p : Result ℕ Refusal). NoteLeft r q ss e p q') here
-    (m, subst (λ (x : Result (Unit {0}) Refused). named x e.house own) (answer ∙ note_same r q s e.house e.number own few) signs)
+    (m, subst (λ (x : Result (Unit {0}) Refused). Signing register x s.house (statement_of r e.house e.number own) q (0 ∷ 0 ∷ []) q' m) (answer ∙ note_same r q s e.house e.number own few) signs)
 
 pub opened_same : (n t : ℕ) → opened (min n 255) (min t 255) ≡ opened n t
 opened_same n t =
@@ -81,11 +86,8 @@ bundle_same r q h k d m few =
     ]
 
 -- the bundle as the event names it
-named : (r : Ruling) (q : Register) (e : Meant) (j : ℕ) (d : Digest) (m : List ℕ) → r.houses ≤ 16 → j ≡ min e.house 255 → d ≡ digest_of e.text → bundle_of r q j e.number d m ≡ bundle_of r q e.house e.number (digest_of e.text) m
-named r q e j d m few house digest =
-    ap (λ (i : ℕ). bundle_of r q i e.number d m) house
-    ∙ (ap (λ (y : Digest). bundle_of r q (min e.house 255) e.number y m) digest
-    ∙ bundle_same r q e.house e.number (digest_of e.text) m few)
+named : (r : Ruling) (q : Register) (e : Meant) (w : Notice) (m : List ℕ) → r.houses ≤ 16 → w ≡ noticed e → bundle_of r q w.house w.number w.digest m ≡ bundle_of r q e.house e.number (digest_of e.text) m
+named r q e w m few names = ap (λ (x : Notice). bundle_of r q x.house x.number x.digest m) names ∙ bundle_same r q e.house e.number (digest_of e.text) m few
 
 abbrev filed : Ruling → Register → List Station → Meant → ℕ → (ℕ × List ℕ) → Result ℕ Refusal
 filed r q ss e at y = told (λ f. f.signers) (file_answer r register q (station_at ss at) (take y.0 y.1) e.text)
@@ -93,30 +95,30 @@ filed r q ss e at y = told (λ f. f.signers) (file_answer r register q (station_
 abbrev bundled : Ruling → Register → List Station → Meant → ℕ → Result ℕ Refusal
 bundled r q ss e at = go_on (bundle_of r q e.house e.number (digest_of e.text) (replicate 85 0)) (filed r q ss e at)
 
-pub file_unbundled : (r : Ruling) (q : Register) (ss : List Station) (e : Meant) (at j : ℕ) (d : Digest) (x : Refusal) → r.houses ≤ 16 → Ok at ≡ station_place r.houses e.at → j ≡ min e.house 255 → d ≡ digest_of e.text → bundle_of r q j e.number d (replicate 85 0) ≡ Err x → Err x ≡ file_outcome r q ss e
-file_unbundled r q ss e at j d x few here house digest is =
-    ap (λ (z : Result (ℕ × List ℕ) Refusal). go_on z (filed r q ss e at)) (sym is ∙ named r q e j d (replicate 85 0) few house digest)
+pub file_unbundled : (r : Ruling) (q : Register) (ss : List Station) (e : Meant) (at : ℕ) (w : Notice) (x : Refusal) → r.houses ≤ 16 → Ok at ≡ station_place r.houses e.at → w ≡ noticed e → bundle_of r q w.house w.number w.digest (replicate 85 0) ≡ Err x → Err x ≡ file_outcome r q ss e
+file_unbundled r q ss e at w x few here names is =
+    ap (λ (z : Result (ℕ × List ℕ) Refusal). go_on z (filed r q ss e at)) (sym is ∙ named r q e w (replicate 85 0) few names)
     ∙ ap (λ (p : Result ℕ Refusal). go_on p (bundled r q ss e)) here
 
-pub file_told : (r : Ruling) (q : Register) (ss : List Station) (e : Meant) (at j : ℕ) (d : Digest) (n : ℕ) (m b : List ℕ) (a : Result Filing Refused) → r.houses ≤ 16 → Ok at ≡ station_place r.houses e.at → j ≡ min e.house 255 → d ≡ digest_of e.text → bundle_of r q j e.number d (replicate 85 0) ≡ Ok (n, m) → b ≡ take n m → a ≡ file_answer r register q (station_at ss at) b e.text → told (λ f. f.signers) a ≡ file_outcome r q ss e
-file_told r q ss e at j d n m b a few here house digest is part files =
+pub file_told : (r : Ruling) (q : Register) (ss : List Station) (e : Meant) (at : ℕ) (w : Notice) (n : ℕ) (m b : List ℕ) (a : Result Filing Refused) → r.houses ≤ 16 → Ok at ≡ station_place r.houses e.at → w ≡ noticed e → bundle_of r q w.house w.number w.digest (replicate 85 0) ≡ Ok (n, m) → b ≡ take n m → a ≡ file_answer r register q (station_at ss at) b e.text → told (λ f. f.signers) a ≡ file_outcome r q ss e
+file_told r q ss e at w n m b a few here names is part files =
     ap (told (λ f. f.signers)) (files ∙ ap (λ (z : List ℕ). file_answer r register q (station_at ss at) z e.text) part)
-    ∙ (ap (λ (z : Result (ℕ × List ℕ) Refusal). go_on z (filed r q ss e at)) (sym is ∙ named r q e j d (replicate 85 0) few house digest)
+    ∙ (ap (λ (z : Result (ℕ × List ℕ) Refusal). go_on z (filed r q ss e at)) (sym is ∙ named r q e w (replicate 85 0) few names)
     ∙ ap (λ (p : Result ℕ Refusal). go_on p (bundled r q ss e)) here)
 
 abbrev stood : Ruling → Register → List Station → Meant → ℕ → (ℕ × List ℕ) → List Station
 stood r q ss e at y = set ss at (file_station r register q (station_at ss at) (take y.0 y.1) e.text)
 
 -- the stations after a file
-file_stood : (r : Ruling) (q : Register) (ss : List Station) (e : Meant) (at j : ℕ) (d : Digest) (n : ℕ) (m b : List ℕ) (s : Station) → r.houses ≤ 16 → Ok at ≡ station_place r.houses e.at → j ≡ min e.house 255 → d ≡ digest_of e.text → bundle_of r q j e.number d (replicate 85 0) ≡ Ok (n, m) → b ≡ take n m → s ≡ file_station r register q (station_at ss at) b e.text → set ss at s ≡ file_stations r q ss e
-file_stood r q ss e at j d n m b s few here house digest is part files =
+file_stood : (r : Ruling) (q : Register) (ss : List Station) (e : Meant) (at : ℕ) (w : Notice) (n : ℕ) (m b : List ℕ) (s : Station) → r.houses ≤ 16 → Ok at ≡ station_place r.houses e.at → w ≡ noticed e → bundle_of r q w.house w.number w.digest (replicate 85 0) ≡ Ok (n, m) → b ≡ take n m → s ≡ file_station r register q (station_at ss at) b e.text → set ss at s ≡ file_stations r q ss e
+file_stood r q ss e at w n m b s few here names is part files =
     ap (λ (x : Station). set ss at x) (files ∙ ap (λ (z : List ℕ). file_station r register q (station_at ss at) z e.text) part)
-    ∙ (ap (λ (z : Result (ℕ × List ℕ) Refusal). after z (stood r q ss e at) ss) (sym is ∙ named r q e j d (replicate 85 0) few house digest)
+    ∙ (ap (λ (z : Result (ℕ × List ℕ) Refusal). after z (stood r q ss e at) ss) (sym is ∙ named r q e w (replicate 85 0) few names)
     ∙ ap (λ (p : Result ℕ Refusal). after p (λ at. after (bundle_of r q e.house e.number (digest_of e.text) (replicate 85 0)) (stood r q ss e at) ss) ss) here)
 
-pub file_unstood : (r : Ruling) (q : Register) (ss : List Station) (e : Meant) (at j : ℕ) (d : Digest) (x : Refusal) → r.houses ≤ 16 → Ok at ≡ station_place r.houses e.at → j ≡ min e.house 255 → d ≡ digest_of e.text → bundle_of r q j e.number d (replicate 85 0) ≡ Err x → ss ≡ file_stations r q ss e
-file_unstood r q ss e at j d x few here house digest is =
-    ap (λ (z : Result (ℕ × List ℕ) Refusal). after z (stood r q ss e at) ss) (sym is ∙ named r q e j d (replicate 85 0) few house digest)
+pub file_unstood : (r : Ruling) (q : Register) (ss : List Station) (e : Meant) (at : ℕ) (w : Notice) (x : Refusal) → r.houses ≤ 16 → Ok at ≡ station_place r.houses e.at → w ≡ noticed e → bundle_of r q w.house w.number w.digest (replicate 85 0) ≡ Err x → ss ≡ file_stations r q ss e
+file_unstood r q ss e at w x few here names is =
+    ap (λ (z : Result (ℕ × List ℕ) Refusal). after z (stood r q ss e at) ss) (sym is ∙ named r q e w (replicate 85 0) few names)
     ∙ ap (λ (p : Result ℕ Refusal). after p (λ at. after (bundle_of r q e.house e.number (digest_of e.text) (replicate 85 0)) (stood r q ss e at) ss) ss) here
 
 -- what a file of the exchange comes to: its outcome and the stations after it
@@ -124,12 +126,12 @@ pub record Filed (r : Ruling) (q : Register) (ss : List Station) (e : Meant) (at
   pub answer : told (λ f. f.signers) a ≡ file_outcome r q ss e
   pub stations : set ss at s ≡ file_stations r q ss e
 
-pub file_gave : (r : Ruling) (q : Register) (ss : List Station) (e : Meant) (at j : ℕ) (d : Digest) (n : ℕ) (m b : List ℕ) (a : Result Filing Refused) (s : Station)
-    → r.houses ≤ 16 → Ok at ≡ station_place r.houses e.at → j ≡ min e.house 255 → d ≡ digest_of e.text
-    → bundle_of r q j e.number d (replicate 85 0) ≡ Ok (n, m) → b ≡ take n m
+pub file_gave : (r : Ruling) (q : Register) (ss : List Station) (e : Meant) (at : ℕ) (w : Notice) (n : ℕ) (m b : List ℕ) (a : Result Filing Refused) (s : Station)
+    → r.houses ≤ 16 → Ok at ≡ station_place r.houses e.at → w ≡ noticed e
+    → bundle_of r q w.house w.number w.digest (replicate 85 0) ≡ Ok (n, m) → b ≡ take n m
     → a ≡ file_answer r register q (station_at ss at) b e.text → s ≡ file_station r register q (station_at ss at) b e.text → Filed r q ss e at a s
-file_gave r q ss e at j d n m b a s few here house digest is part answers stands =
+file_gave r q ss e at w n m b a s few here names is part answers stands =
     record {
-      answer = file_told r q ss e at j d n m b a few here house digest is part answers;
-      stations = file_stood r q ss e at j d n m b s few here house digest is part stands;
+      answer = file_told r q ss e at w n m b a few here names is part answers;
+      stations = file_stood r q ss e at w n m b s few here names is part stands;
     }

@@ -189,11 +189,7 @@ impl<R: Rule + Drop> Stage<R> {
     }
 
     // Writes the bundle of all receipts there are, and answers its length.
-    fn bundle(
-        &self,
-        notice: Notice,
-        memory: &mut [u8],
-    ) -> Result<usize, Refusal>
+    fn bundle(&self, notice: Notice, memory: &mut [u8]) -> Result<usize, Refusal>
         ensures bound { IfOk result (λ n. n ≤ length memory.old) }
         ensures answer { MatchResult result
             (λ n. bundle_of (R.Rule.ruling self.now.exchange.rule) self.now.exchange.seal notice.house notice.number notice.digest memory.old ≡ Ok (n, memory.new))

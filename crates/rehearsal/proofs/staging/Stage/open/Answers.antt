@@ -1,4 +1,4 @@
-use Rattle.std.proofs.Common.{ℕ, ◌≤◌, sym, ap, subst, subst₂}
+use Rattle.std.proofs.Common.{ℕ, ◌∙◌, ◌*◌, ◌≤◌, sym, ap, subst, subst₂}
 use Rattle.seal.specs.declared.register.Register.{Register}
 use Rattle.rehearsal.specs.Playing.{Opens}
 use Rattle.rehearsal.proofs.Opened.{opens_with}
