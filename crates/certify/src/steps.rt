@@ -85,6 +85,7 @@ pub fn certify(rt: &HostRuntime, exchange: &mut FourHouses, pages: &[u8]) -> Res
         digest,
     };
     let seals = note_all(rt, exchange, &mut stations, notice)?;
+    // Fixed memory, lent to the exchange; how much of it is the bundle, issue answers.
     let mut memory = [0; BUNDLE_ROOM];
     let closed = gather(rt, exchange, notice, &seals, &mut memory)?;
     let length = exchange.issue(closed, &mut memory)?;

@@ -15,7 +15,7 @@ use sha256::{Digest, digest};
 use witness::Rule;
 
 impl<R: Rule, S: Seal> Exchange<R, S> {
-    // A house's next edition: its number and its digest.
+    // A house's next edition: its number and its digest. No Notice, since the house is the station's own.
     pub fn announce(&self, station: &mut Station, pages: &[u8]) -> Result<(Number, Digest), Refused>
         ensures answer { result ≡ announce_answer (R.Rule.ruling self.now.rule) station.old pages.now }
         ensures station { station.new ≡ announce_station (R.Rule.ruling self.now.rule) station.old pages.now }

@@ -15,6 +15,6 @@ pub struct Station {
     pub(crate) house: u8,
     // How many editions it has announced.
     pub(crate) announced: Number,
-    // A row for each of 16 houses.
+    // A row for each of 16 houses, in an array, since the exchange allocates nothing.
     pub(crate) rows: [Row; 16],
 }

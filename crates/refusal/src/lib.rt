@@ -78,7 +78,7 @@ impl Refusal {
         if yes { Ok(()) } else { Err(self) }
     }
 
-    // What is wrong, as a sentence.
+    // What is wrong, as a sentence. By hand, since a derived text would have no contract.
     fn text(self) -> &'static str
         ensures { result.now ≡ text_of self }
     {

@@ -55,6 +55,7 @@ fn played(heap: Global, opening: Opening) -> Result<Vec<Line>, AllocError>
 {
     let houses = capped(opening.houses);
     let faults = capped(opening.faults);
+    // A match and no table of rules: each arm opens a rule of another type, and there are no other marks.
     match opening.mark {
         Mark::All => staged(heap, All::open(houses, faults), opening.events),
         Mark::Rotating => staged(heap, Rotating::open(houses, faults), opening.events),

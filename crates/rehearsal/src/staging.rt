@@ -217,6 +217,7 @@ impl<R: Rule + Drop> Stage<R> {
         ensures exchange { self.new.exchange ≡ self.old.exchange }
     {
         let at = self.station_of(at)?;
+        // Fixed memory, lent to the exchange; how much of it is the bundle, issue answers.
         let mut memory = [0; BUNDLE];
         let length = self.bundle(notice_of(named, text), &mut memory)?;
         let filing = self
@@ -242,6 +243,7 @@ impl<R: Rule + Drop> Stage<R> {
                 outcome: Err(Refusal::BadLine),
             };
         };
+        // A match and no table of calls: there are just these three, and they take different things.
         let (call, outcome) = match asked {
             Asked::Announce => (Call::Announce, self.announce(at, text)),
             Asked::Note(named) => (Call::Note, self.note(at, named, text)),

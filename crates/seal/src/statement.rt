@@ -10,7 +10,7 @@ pub const STATEMENT_BYTES: usize = 36;
 
 #[derive(Clone, Copy, PartialEq)]
 pub struct Statement {
-    // The mark of the witness rule.
+    // The mark of the witness rule: a byte and no enum, since a statement may name a rule that is not there.
     pub mark: u8,
     // The house whose edition it is.
     pub house: u8,

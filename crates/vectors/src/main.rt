@@ -22,6 +22,7 @@ fn published(rt: &HostRuntime) -> io::Result<()> {
 fn lengths(rt: &HostRuntime) -> io::Result<()> {
     // Bytes with no pattern that a block's length would fit.
     let message: [u8; LONGEST] = array::from_fn(|i| ((37 * i + 11) % 256) as u8);
+    // A number and no iterator over the message, since the number is printed.
     for n in 0..=LONGEST {
         println!(rt; "{n} {}", digest(&message[..n]))?;
     }

@@ -6,6 +6,7 @@ use edition::Number;
 
 // A witness rule. It answers for every house and number: no house is named and no set is accepted
 // for a house that is not there or for number 0.
+// House and number stay two parameters: a struct would be made at each call only to be taken apart.
 pub trait Rule {
     ghost ruling: { Self → Ruling };
 

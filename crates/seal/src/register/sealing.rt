@@ -64,6 +64,7 @@ impl Seal for Register {
 
     ghost sized = { λ _. row_size };
 
+    // Handed on to the supply, as in the other kind: the trait cannot do it, since a kind need not have one.
     fn houses(&self) -> u8 {
         self.supply.houses()
     }
