@@ -39,7 +39,7 @@ pub(crate) struct Line {
 }
 
 impl Line {
-    // The number of the refusal, 0 where there is none.
+    // The number of the refusal, and 0 where there is none, as the report's lines have it.
     fn refusal(self) -> u8
         ensures { result ≡ outcome_number self.outcome }
     {

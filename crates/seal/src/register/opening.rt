@@ -47,6 +47,7 @@ impl Register {
     pub fn new(houses: u8, table: Table) -> Register
         ensures { Begun result (after (register_asked houses (vec_capacity table.entries)) (λ _. houses) 0) (after (register_asked houses (vec_capacity table.entries)) (λ _. vec_capacity table.entries / houses) 0) table }
     {
+        // A match: with `unwrap_or` the check finds no proof that the rows suffice.
         match supply_of(houses, table.entries.capacity()) {
             Ok(supply) => Register::begun(supply, table),
             Err(_) => Register::begun(Supply::share(0, 0), table),

@@ -61,12 +61,9 @@ impl Stamps {
     pub fn new(houses: u8, keys: &[u8]) -> Stamps
         ensures { Keyed result (after (stamps_asked houses (length keys.now)) (λ _. houses) 0) keys.now }
     {
-        match Stamps::open(houses, keys) {
-            Ok(stamps) => stamps,
-            Err(_) => Stamps {
-                supply: Supply::share(0, 0),
-                keys: prepare(&[]),
-            },
-        }
+        Stamps::open(houses, keys).unwrap_or_else(|_| Stamps {
+            supply: Supply::share(0, 0),
+            keys: prepare(&[]),
+        })
     }
 }
