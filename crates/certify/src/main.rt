@@ -21,7 +21,7 @@ fn told(rt: &HostRuntime, outcome: Result<(), Stop>) -> anyhow::Result<()> {
     match outcome {
         Ok(()) => Ok(()),
         Err(Stop::Refused(refusal)) => refused(rt, refusal),
-        Err(stop) => Err(stop.into()),
+        Err(Stop::Failed(error)) => Err(error),
     }
 }
 

@@ -1,5 +1,5 @@
--- The number of each refusal.
-use Rattle.std.specs.Prelude.{ℕ}
+-- The number of each refusal, and that no two have the same.
+use Rattle.std.specs.Prelude.{◌≡◌, ℕ}
 use Rattle.refusal.specs.declared.Refusal.{Refusal}
 use Rattle.refusal.specs.declared.Refusal.TheVariants.{HouseCount, TooManyFaults, SealMemory, StationHouse, NumbersUsedUp, WindowFull, PagesTooLong, NoSuchHouse, NumberPast, NumberAhead, NotNamed, AlreadyNoted, OtherDigestNoted, NoSealLeft, MemoryTooSmall, ReceiptRepeated, SealLength, SealFails, NotAccepted, BundleTooShort, OtherRule, OtherPages, BundleLength, BadLine}
 
@@ -29,3 +29,7 @@ number_of OtherRule = 21
 number_of OtherPages = 22
 number_of BundleLength = 23
 number_of BadLine = 24
+
+-- a refusal is known by its number
+abbrev pub KnownByNumber : Type 0
+KnownByNumber = (x y : Refusal) → number_of x ≡ number_of y → x ≡ y

@@ -2,7 +2,7 @@
 #![tactic(auto)]
 
 ghost use Rattle.std.specs.Prelude.{◌≡◌, Some, Ok};
-ghost use Rattle.refusal.specs.Numbers.{number_of};
+ghost use Rattle.refusal.specs.Numbers.{number_of, KnownByNumber};
 ghost use Rattle.refusal.specs.Places.{refused_text};
 ghost use Rattle.refusal.specs.Questions.{ask, at_receipt, whole};
 ghost use Rattle.refusal.specs.Texts.{text_of};
@@ -62,6 +62,12 @@ pub enum Refusal {
     // The input line does not have the right form.
     BadLine = 24,
 }
+
+// No two refusals have one number.
+#[tactic(auto, using(crate::proofs::Numbers::same_number))]
+pub fn numbers_tell_refusals_apart()
+    ensures { KnownByNumber }
+{}
 
 impl Refusal {
     // The number by which it is known outside the program.

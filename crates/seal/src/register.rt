@@ -9,7 +9,7 @@ mod opening;
 mod reading;
 mod sealing;
 
-// The used rows in their order. There is room for one for every seal that is left, so no sign allocates.
+// The used rows in their order. There is room for one for every seal that is left, so no sign fails for want of memory.
 #[derive(Drop)]
 pub struct Register {
     supply: Supply,
