@@ -1,7 +1,6 @@
 // Certifies one edition of house 0 among four houses, by a register and the rule Rotating: prints a line for each step, and its bundle.
 #![tactic(auto)]
 
-mod hexadecimal;
 mod steps;
 mod stop;
 

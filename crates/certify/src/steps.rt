@@ -2,10 +2,10 @@
 ghost use Rattle.std.specs.Prelude.{◌≡◌, IfOk};
 ghost use Rattle.seal.specs.Registers.{register, used};
 
-use crate::hexadecimal::Hexadecimal;
 use crate::stop::Stop;
 use exchange::{Closed, Exchange, Notice, Station};
 use seal::{Register, Seal, Table};
+use sha256::Hexadecimal;
 use std::alloc::Global;
 use witness::Rotating;
 
@@ -90,6 +90,7 @@ pub fn certify(rt: &HostRuntime, exchange: &mut FourHouses, pages: &[u8]) -> Res
     let closed = gather(rt, exchange, notice, &seals, &mut memory)?;
     let length = exchange.issue(closed, &mut memory)?;
     println!(rt; "issue {length}")?;
-    println!(rt; "bundle {}", Hexadecimal::front(&memory, length))?;
+    let bundle = memory.get(..length).unwrap_or(&memory);
+    println!(rt; "bundle {}", Hexadecimal::new(bundle))?;
     Ok(())
 }

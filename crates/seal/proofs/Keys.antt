@@ -5,6 +5,7 @@ use Rattle.std.proofs.lemmas.List.{get_or-map, drop-drop}
 use Rattle.std.specs.Array.{IsFromFnResultFrom}
 use Rattle.std.specs.Simd.{first_chunks}
 use denote.Param.Members.{Mut, Called}
+use Rattle.sha256.proofs.Schedule.{chunk_at}
 use Rattle.hmac.specs.declared.prepared.PreparedKey.{PreparedKey}
 use Rattle.seal.specs.StampKinds.{key_size, blocks_of, key_at}
 
@@ -25,12 +26,5 @@ module _ {F B : Type 0} (g : Mut F (ℕ × Unit {0}) B) (f : F) (P : ℕ → B �
       (cases_eq k i)
 
 -- a chunk of the keys is a key
-pub chunk_at : (n k i : ℕ) (xs : List ℕ) → i < k → get_or (first_chunks n k xs) i [] ≡ take n (drop (n * i) xs)
-chunk_at n zero i xs h = absurd (omega arith)
-chunk_at n (suc k) zero xs h = ap (λ (j : ℕ). take n (drop j xs)) (sym (mul-zero n))
-chunk_at n (suc k) (suc i) xs h =
-    chunk_at n k i (drop n xs) (omega arith)
-    ∙ ap (take n) (drop-drop (n * i) n xs ∙ ap (λ (j : ℕ). drop j xs) (add_comm n (n * i) ∙ sym (mul-suc n i)))
-
 pub key_chunk : (keys : List ℕ) (i : ℕ) → key_size * i + key_size ≤ length keys → get_or (first_chunks key_size (length keys / key_size) keys) i [] ≡ key_at keys i
 key_chunk keys i whole = chunk_at key_size (length keys / key_size) i keys (omega arith)

@@ -1,5 +1,5 @@
 mod Majority
-mod Schedule
+pub mod Schedule
 mod Compression
 pub mod Hash
 pub mod Padding

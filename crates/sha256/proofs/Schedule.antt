@@ -68,7 +68,8 @@ word_kept w m n y h e s =
     ∙ sym (scheduled_keeps (48 - n) n n m e front)
     ∙ ap (λ (k : ℕ). get_or (scheduled k m) n 0) rest
 
-chunk_at : (n k i : ℕ) (m : List ℕ) → i < k → get_or (first_chunks n k m) i [] ≡ take n (drop (n * i) m)
+-- a chunk of so many numbers, by its number
+pub chunk_at : (n k i : ℕ) (m : List ℕ) → i < k → get_or (first_chunks n k m) i [] ≡ take n (drop (n * i) m)
 chunk_at n zero i m h = absurd (omega arith)
 chunk_at n (suc k) zero m h =
     let place : 0 ≡ n * 0 = omega arith in

@@ -1,6 +1,5 @@
 -- Laws of the hexadecimal text, one byte at a time.
-use Rattle.std.proofs.Common.{◌≡◌, ℕ, ◌+◌, ◌/◌, ◌%◌, ◌^◌, ◌-◌, ◌<◌, false, List, [], ◌∷◌, ◌++◌, length, get_or, take, sym, refl, ap, ◌∙◌}
-use Rattle.std.proofs.lemmas.List.{take_more}
+use Rattle.std.proofs.Common.{◌≡◌, ℕ, ◌/◌, ◌%◌, ◌^◌, ◌-◌, ◌<◌, false, List, [], ◌∷◌, ◌++◌, sym, refl, ap, ◌∙◌}
 use Rattle.std.specs.declared.fmt.Formatter.{Formatter}
 use Rattle.std.specs.Fmt.{HasWritten, padded_integral, format_spec, digits}
 use Rattle.std.proofs.Output.{has_written_append, has_written_of_eq}
@@ -20,14 +19,9 @@ unfolding hex
 hex_push [] b = refl
 hex_push (x ∷ bs) b = ap (λ (v : List ℕ). hex_digit (x / 16) ∷ hex_digit (x % 16) ∷ v) (hex_push bs b)
 
--- the text of one byte more
-hex_more : (bytes : List ℕ) (i : ℕ) → i < length bytes → get_or bytes i 0 < 256 → hex (take i bytes) ++ two_digits (get_or bytes i 0) ≡ hex (take (i + 1) bytes)
-hex_more bytes i within small =
-    let b = get_or bytes i 0 in
-    ap (λ (v : List ℕ). hex (take i bytes) ++ v) (hex_byte false b small) ∙ sym (hex_push (take i bytes) b) ∙ ap hex (sym (take_more bytes i 0 within))
-
 -- one turn of the loop that writes it
-pub written_more : {W : Type 0} {took : W → List ℕ → W → Type 0} (f g h : Formatter W) (bytes : List ℕ) (i : ℕ)
-    → i < length bytes → get_or bytes i 0 < 256
-    → HasWritten took f (hex (take i bytes)) g → HasWritten took g (two_digits (get_or bytes i 0)) h → HasWritten took f (hex (take (i + 1) bytes)) h
-written_more f g h bytes i within small before turn = has_written_of_eq _ _ _ _ _ (hex_more bytes i within small) (has_written_append _ _ _ _ _ _ before turn)
+pub written_more : {W : Type 0} {took : W → List ℕ → W → Type 0} (f g h : Formatter W) (bytes : List ℕ) (b : ℕ)
+    → b < 256
+    → HasWritten took f (hex bytes) g → HasWritten took g (two_digits b) h → HasWritten took f (hex (bytes ++ (b ∷ []))) h
+written_more f g h bytes b small before turn =
+    has_written_of_eq _ _ _ _ _ (ap (λ (v : List ℕ). hex bytes ++ v) (hex_byte false b small) ∙ sym (hex_push bytes b)) (has_written_append _ _ _ _ _ _ before turn)

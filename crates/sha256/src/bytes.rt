@@ -2,6 +2,7 @@
 ghost use Rattle.std.specs.Prelude.{◌≡◌, Some};
 ghost use Rattle.sha256.specs.Text.{digest_bytes, digest_text};
 
+use crate::hexadecimal::Hexadecimal;
 use crate::value::Digest;
 use std::fmt;
 
@@ -20,11 +21,9 @@ impl Digest {
 impl fmt::Display for Digest {
     ghost output = { λ d. Some (digest_text d) };
 
-    #[tactic(auto, using(crate::proofs::Text::hex_none, crate::proofs::Text::written_more))]
     fn fmt<W: fmt::Write>(&self, f: &mut fmt::Formatter<W>) -> fmt::Result {
-        for byte in self.bytes() {
-            write!(f, "{byte:02x}")?;
-        }
-        Ok(())
+        let bytes = self.bytes();
+        let text = Hexadecimal::new(&bytes);
+        write!(f, "{text}")
     }
 }

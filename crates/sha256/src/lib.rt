@@ -9,11 +9,13 @@ mod block;
 mod bytes;
 mod constants;
 mod functions;
+mod hexadecimal;
 mod message;
 mod state;
 mod tail;
 mod value;
 
+pub use hexadecimal::Hexadecimal;
 use message::hash;
 pub use state::State;
 pub use value::Digest;

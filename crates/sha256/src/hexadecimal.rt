@@ -1,5 +1,6 @@
 // Bytes as text.
-ghost use Rattle.std.specs.Prelude.{◌≡◌, ◌<◌, ◌≤◌, length, take};
+ghost use Rattle.std.specs.Prelude.{◌≡◌, Some};
+ghost use Rattle.sha256.specs.Text.{hex};
 
 use std::fmt;
 
@@ -15,19 +16,14 @@ impl<'a> Hexadecimal<'a> {
     {
         Hexadecimal { bytes }
     }
-
-    // The first bytes alone, or all where there are not so many.
-    pub fn front(bytes: &'a [u8], count: usize) -> Hexadecimal<'a>
-        ensures part { count ≤ length bytes.now → result.bytes.now ≡ take count bytes.now }
-        ensures all { length bytes.now < count → result.bytes.now ≡ bytes.now }
-    {
-        Hexadecimal::new(bytes.get(..count).unwrap_or(bytes))
-    }
 }
 
 impl fmt::Display for Hexadecimal<'_> {
+    ghost output = { λ x. Some (hex x.bytes.now) };
+
+    #[tactic(auto, using(crate::proofs::Text::hex_none, crate::proofs::Text::written_more))]
     fn fmt<W: fmt::Write>(&self, f: &mut fmt::Formatter<W>) -> fmt::Result {
-        for byte in self.bytes {
+        for byte in self.bytes.iter().copied() {
             write!(f, "{byte:02x}")?;
         }
         Ok(())
