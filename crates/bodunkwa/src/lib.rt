@@ -7,13 +7,11 @@ ghost use Rattle.bodunkwa.specs.Answers.{number, digest_answer, digest_memory, S
 use edition::admit;
 use hmac::PreparedKey;
 use refusal::Refusal;
-use seal::STATEMENT_BYTES;
+use seal::{KEY_BYTES, STATEMENT_BYTES};
 use sha256::digest;
 
 // The bytes of a digest.
 const DIGEST_BYTES: usize = 32;
-// The bytes of a house's key for stamps.
-const KEY_BYTES: usize = 32;
 
 // Writes the digest of the pages to the front of the memory.
 fn write_digest(pages: &[u8], memory: &mut [u8]) -> Result<(), Refusal>

@@ -10,7 +10,7 @@ use refusal::Refusal;
 use seal::{Seal, Statement};
 use witness::Rule;
 
-// Whether a house is in a set.
+// Whether a house is in a set. Sets are numbers of 16 bits, as in the rules' meaning and laws: a type around them would be taken apart at each.
 pub(crate) fn is_member(set: u16, house: u8) -> bool
     ensures { result ≡ member set house }
 {

@@ -48,7 +48,7 @@ impl<R: Rule, S: Seal> Exchange<R, S> {
         Ok(met | 1 << house)
     }
 
-    // The same for the receipt at a place, which a refusal names.
+    // The same for the receipt at a place, which a refusal names. No Receipt, since that counts places past a byte.
     fn take(
         &self,
         statement: Statement,

@@ -1,9 +1,8 @@
 // Reading a bundle: its head parted, and its receipts as parts of the bundle itself.
 ghost use Rattle.std.specs.Prelude.{◌≡◌, ◌+◌, ◌<◌, ◌≤◌, length, MatchOption};
-ghost use Rattle.seal.specs.Statements.{statement_length};
 ghost use Rattle.exchange.specs.Layout.{head_length, word_at, bundle_statement, bundle_count, receipt_at, receipt_house, receipt_seal};
 
-use crate::layout::{HEAD_BYTES, receipt_at};
+use crate::layout::receipt_at;
 use edition::Number;
 use seal::Statement;
 use sha256::Digest;

@@ -37,7 +37,7 @@ fn with_digit(value: u16, byte: u8) -> Option<u16>
 }
 
 // The number that digits are, which may begin with 0, if it is not too large.
-// No `try_fold`: its contract says what each call gave, and the check finds no proof of what all of them come to.
+// No `try_fold`: its contract says what each call gave, and the check finds no proof of what all of them come to. No `parse`: it takes a `+`.
 #[tactic(auto, using(crate::proofs::Steps::read_step, crate::proofs::Steps::read_end))]
 fn digits(field: &[u8]) -> Option<u16>
     ensures { result ≡ read_on 0 field.now }

@@ -32,6 +32,7 @@ const BUNDLE: usize = 85;
 #[derive(Drop)]
 pub(crate) struct Stage<R: Rule> {
     exchange: Exchange<R, Register>,
+    // One for each house that there can be, so that none is ever missing.
     stations: [Station; STATIONS],
 }
 
@@ -69,7 +70,7 @@ impl<'a> Iterator for EventLines<'a> {
     }
 }
 
-// The seal that names a row: its number.
+// The seal that names a row: its number. The register itself only has to write that of its next row.
 fn seal_of(row: usize) -> [u8; 2]
     requires { row < 65536 }
     ensures { result ≡ row_bytes row }

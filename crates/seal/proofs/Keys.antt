@@ -1,7 +1,7 @@
 -- Keys that are made ready one by one.
-use Rattle.std.proofs.Common.{◌≡◌, ℕ, zero, suc, ◌+◌, ◌*◌, ◌/◌, ◌<◌, ◌≤◌, List, [], length, get_or, take, drop, ⊎_elim, sym, ap, ◌∙◌, subst, arith, add_comm, mul-zero, mul-suc}
+use Rattle.std.proofs.Common.{◌≡◌, ℕ, zero, suc, ◌+◌, ◌*◌, ◌/◌, ◌<◌, ◌≤◌, List, [], length, get_or, ⊎_elim, sym, ap, ◌∙◌, subst, arith}
 use Rattle.std.proofs.lemmas.Bool.{cases_eq}
-use Rattle.std.proofs.lemmas.List.{get_or-map, drop-drop}
+use Rattle.std.proofs.lemmas.List.{get_or-map}
 use Rattle.std.specs.Array.{IsFromFnResultFrom}
 use Rattle.std.specs.Simd.{first_chunks}
 use denote.Param.Members.{Mut, Called}

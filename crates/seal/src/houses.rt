@@ -18,6 +18,7 @@ pub(crate) fn houses_fit(houses: u8) -> bool
 #[derive(Clone, Copy)]
 pub(crate) struct Supply {
     houses: u8,
+    // By house, in fixed memory.
     left: [u16; MOST_HOUSES],
     ghost few: { houses ≤ most_houses },
 }

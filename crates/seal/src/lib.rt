@@ -14,7 +14,7 @@ mod table;
 pub use entry::Entry;
 pub use kind::Seal;
 pub use register::Register;
-pub use stamps::Stamps;
+pub use stamps::{KEY_BYTES, Stamps};
 pub use statement::{STATEMENT_BYTES, Statement};
 pub use table::Table;
 

@@ -5,7 +5,10 @@ use hmac::PreparedKey;
 mod opening;
 mod sealing;
 
-// It keeps prepared keys, so that a seal does not hash the key again; places of no house hold an empty key.
+pub use opening::KEY_BYTES;
+
+// It keeps prepared keys, so that a seal does not hash the key again; places of no house hold an empty key,
+// and not none, since a key is looked up for a house that there is.
 #[derive(Drop)]
 pub struct Stamps {
     supply: Supply,

@@ -1,4 +1,5 @@
 // The eight 32-bit words that the hash carries from block to block, and the working variables of a block's rounds.
+// By name and in no array, as in the standard: each has its own part in a round.
 #[derive(Clone, Copy)]
 pub struct State {
     pub a: u32,

@@ -9,7 +9,7 @@ use crate::state::State;
 // Where the length stands in a block.
 const ROOM: usize = 56;
 
-// The padded end, in the first block where `rest` leaves room for the length, else in both.
+// The padded end, in fixed memory: in the first block where `rest` leaves room for the length, else in both.
 fn pad(rest: &[u8], bits: u64) -> [u8; 128]
     requires { length rest.now < 64 }
     ensures one { length rest.now < 56 → take 64 result ≡ rest.now ++ padding (zeros (length rest.now)) bits }

@@ -12,8 +12,8 @@ use hmac::PreparedKey;
 use refusal::Refusal;
 use std::array;
 
-// How many bytes a key has.
-const KEY: usize = 32;
+// How many bytes a house's key for stamps has.
+pub const KEY_BYTES: usize = 32;
 // How many seals each house begins with.
 const MOST: u16 = 65_535;
 
@@ -22,12 +22,12 @@ fn supply_of(houses: u8, bytes: usize) -> Result<Supply, Refusal>
     ensures { Opens (stamps_asked houses bytes) (Shared houses most_stamps) result }
 {
     Refusal::HouseCount.unless(houses_fit(houses))?;
-    Refusal::SealMemory.unless(bytes == KEY * usize::from(houses))?;
+    Refusal::SealMemory.unless(bytes == KEY_BYTES * usize::from(houses))?;
     Ok(Supply::share(houses, MOST))
 }
 
 // A key by its number, made ready, and an empty one past the last.
-fn ready(keys: &[[u8; KEY]], i: usize) -> PreparedKey
+fn ready(keys: &[[u8; KEY_BYTES]], i: usize) -> PreparedKey
     ensures { result.block ≡ key_block (slice_index_or keys.now i []) }
 {
     match keys.get(i) {
@@ -40,7 +40,7 @@ fn ready(keys: &[[u8; KEY]], i: usize) -> PreparedKey
 fn prepare(keys: &[u8]) -> [PreparedKey; MOST_HOUSES]
     ensures { (i : ℕ) → i < most_houses → key_size * i + key_size ≤ length keys.now → slice_index_or (blocks_of result) i [] ≡ key_block (key_at keys.now i) }
 {
-    let (keys, _) = keys.as_chunks::<KEY>();
+    let (keys, _) = keys.as_chunks::<KEY_BYTES>();
     array::from_fn(|i| ready(keys, i))
 }
 
