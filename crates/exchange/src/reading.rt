@@ -28,7 +28,8 @@ fn word(bytes: &[u8; 8]) -> u64
     u64::from_be_bytes(*bytes)
 }
 
-// The head of a bundle, or nothing where the bundle is shorter than a head.
+// The head of a bundle, or nothing where the bundle is shorter than a head. No `From` of arrays for its parts: the borrow checker
+// does not cover a part of an array behind a reference, and through slices that would be this text again.
 pub fn part_head(bundle: &[u8]) -> Option<Head>
     ensures { MatchOption result (length bundle.now < head_length) (λ h. (head_length ≤ length bundle.now) × (h.statement ≡ bundle_statement bundle.now) × (h.count ≡ bundle_count bundle.now)) }
 {

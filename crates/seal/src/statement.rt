@@ -8,6 +8,7 @@ use sha256::Digest;
 // How many bytes a statement has: the one place that names it.
 pub const STATEMENT_BYTES: usize = 36;
 
+// Flat, and with no Notice in it: definitions, laws and the bytes that are sealed name the four parts one by one.
 #[derive(Clone, Copy, PartialEq)]
 pub struct Statement {
     // The mark of the witness rule: a byte and no enum, since a statement may name a rule that is not there.
