@@ -89,6 +89,7 @@ impl Asked {
 pub(crate) fn parse(line: &[u8]) -> Option<Event<'_>>
     ensures { MatchOption result (event_of line.now ≡ None) (λ e. event_of line.now ≡ Some (meant e)) }
 {
+    // Cuts, and no `splitn`: five calls of `next` are no shorter, and say less of what is left.
     let (first, rest) = cut(line, SPACE)?;
     let (second, rest) = cut(rest, SPACE)?;
     let (third, rest) = cut(rest, SPACE)?;
