@@ -1,4 +1,4 @@
-// What C programs are answered; the crate bodunkwa_c gives them these functions by name, and include/bodunkwa.h declares them.
+// What C programs are answered; the crate bodunkwa_c gives them these functions by name, and include/bodunkwa.h declares them, parameter by parameter.
 #![tactic(auto)]
 
 ghost use Rattle.std.specs.Prelude.{◌≡◌, Decides};

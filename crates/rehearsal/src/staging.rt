@@ -70,7 +70,8 @@ impl<'a> Iterator for EventLines<'a> {
     }
 }
 
-// The seal that names a row: its number. The register itself only has to write that of its next row.
+// The seal that names a row: its number. One expression, which the register writes for its next row; a public function of it would
+// have to refuse a row past two bytes.
 fn seal_of(row: usize) -> [u8; 2]
     requires { row < 65536 }
     ensures { result ≡ row_bytes row }
