@@ -15,6 +15,7 @@ pub use laws::{law_at_both_rules, law_over_register, law_over_stamps};
 
 // In every run over a register of which no row was used at the opening, what checks for an honest house was signed by a note of it.
 // Already where no direct sign for an honest house is taken, whatever notices carry.
+#[tactic(auto, using(crate::proofs::Forging::register_unforged, crate::proofs::Forging::register_unforged_by_note))]
 pub fn register_seals_are_not_forged()
     ensures fair { RegisterUnforged }
     ensures by_note { RegisterUnforgedByNote }
