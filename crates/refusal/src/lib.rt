@@ -1,7 +1,7 @@
 // The closed list of refusals, each with its number and its text, and a refusal with its place.
 #![tactic(auto)]
 
-ghost use Rattle.std.specs.Prelude.{◌≡◌, Some, Ok};
+ghost use Rattle.std.specs.Prelude.{◌≡◌, Some, Ok, Decides};
 ghost use Rattle.refusal.specs.Numbers.{number_of, KnownByNumber};
 ghost use Rattle.refusal.specs.Places.{refused_text};
 ghost use Rattle.refusal.specs.Questions.{ask, at_receipt, whole};
@@ -75,6 +75,13 @@ impl Refusal {
         ensures { result ≡ number_of self }
     {
         self as u8
+    }
+
+    // Whether two refusals are one: what `==` answers, said outright.
+    pub fn same(self, other: Refusal) -> bool
+        ensures { Decides result (self ≡ other) }
+    {
+        self == other
     }
 
     // Refuses, unless a question is answered by yes.

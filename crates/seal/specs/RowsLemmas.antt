@@ -1,10 +1,10 @@
 -- When a row holds a house and a statement.
-use Rattle.std.specs.Prelude.{◌≡◌, ℕ, zero, suc, ◌<◌, true, List, [], ◌∷◌, ◌++◌, length, Some, Decides, ◌==◌, ◌≢◌, refl}
+use Rattle.std.specs.Prelude.{◌≡◌, ℕ, zero, suc, ◌<◌, Bool, true, false, cond, List, [], ◌∷◌, ◌++◌, length, Some, Decides, ◌==◌, ◌≢◌, refl}
 use Rattle.std.specs.List.{slice_get}
 use Rattle.std.proofs.Common.{ap, ◌∙◌, arith}
 use Rattle.std.proofs.lemmas.Slice.Eq.{bytes_eq-Decides}
 use Rattle.std.proofs.lemmas.Bool.{false≢true, and_parts, and_from, eqb-true, eq-eqb}
-use Rattle.std.proofs.lemmas.Bool.Decides.{Decides-like, Decides-and, Decides-eqb}
+use Rattle.std.proofs.lemmas.Bool.Decides.{same_from_decides, Decides-like, Decides-and, Decides-eqb}
 use Rattle.sha256.specs.declared.value.Digest.{Digest}
 use Rattle.seal.specs.declared.entry.Entry.{Entry}
 use Rattle.seal.specs.declared.statement.Statement.{Statement}
@@ -27,6 +27,27 @@ same_statement_decides x y =
     (Decides-and (x.mark == y.mark) _ (Decides-eqb x.mark y.mark)
     (Decides-and (x.house == y.house) _ (Decides-eqb x.house y.house)
     (Decides-and (x.number == y.number) _ (Decides-eqb x.number y.number) (bytes_eq-Decides x.digest.words y.digest.words))))
+
+-- what a test says that compares two statements part by part
+abbrev pub Compared : Statement → Statement → Bool → Type 0
+Compared x y r =
+    cond r
+    (Decides true (x.mark ≡ y.mark) × (Decides true (x.house ≡ y.house) × (Decides true (x.number ≡ y.number) × Decides true (x.digest ≡ y.digest))))
+    ((Decides false (x.mark ≡ y.mark) → ⊥) → (Decides false (x.house ≡ y.house) → ⊥) → (Decides false (x.number ≡ y.number) → ⊥) → (Decides false (x.digest ≡ y.digest) → ⊥) → ⊥)
+
+compared_decides : (x y : Statement) (r : Bool) → Compared x y r → Decides r (x ≡ y)
+compared_decides x y true (m, (h, (n, d))) = (λ _. same_parts x y (m.0 refl) (h.0 refl) (n.0 refl) (d.0 refl), λ _. refl)
+compared_decides x y false apart = (
+  λ e. absurd (false≢true e),
+  λ e. absurd (apart
+      (λ w. false≢true (w.1 (ap (λ (v : Statement). v.mark) e)))
+      (λ w. false≢true (w.1 (ap (λ (v : Statement). v.house) e)))
+      (λ w. false≢true (w.1 (ap (λ (v : Statement). v.number) e)))
+      (λ w. false≢true (w.1 (ap (λ (v : Statement). v.digest) e)))),
+)
+
+pub compared : (x y : Statement) (r : Bool) → Compared x y r → r ≡ same_statement x y
+compared x y r e = same_from_decides r (same_statement x y) (compared_decides x y r e) (same_statement_decides x y)
 
 -- a row that was signed by the house on the statement
 pub holds_own : (i : ℕ) (x : Statement) → holds (Some (entry i x)) i x ≡ true

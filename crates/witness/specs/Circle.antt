@@ -34,25 +34,33 @@ steps_apart n x y h l e =
 
 -- ---- the circle
 
+pub circle_none : (n first : ℕ) → circle n first 0 ≡ 0
+unfolding circle
+circle_none n first = refl
+
+-- one house more, as a bit of a word of 16 bits
+pub circle_more : (n first r : ℕ) → 1 ≤ n → n ≤ 16
+    → bit_or (circle n first r) ((1 * 2 ^ ((first + r) % n)) % 2 ^ 16) ≡ circle n first (r + 1)
+unfolding circle
+circle_more n first r least most =
+    rw (add-one, one_shl ((first + r) % n) 16 (lt_of_lt_of_le (mod-lt (first + r) least) most))
+
 -- a set with one house more, as a word of 16 bits
 abbrev pub joined : (n first set r : ℕ) → ℕ
 joined n first set r = bit_or set ((1 * 2 ^ ((first + r) % n)) % 2 ^ 16)
 
 module _ (n first : ℕ) (least : 1 ≤ n) (most : n ≤ 16) where
-  circle_more : (r : ℕ) → joined n first (circle n first r) r ≡ circle n first (r + 1)
-  unfolding circle
-  circle_more r = rw (add-one, one_shl ((first + r) % n) 16 (lt_of_lt_of_le (mod-lt (first + r) least) most))
-
   -- the c houses from r on join those before
   circle_goes_on : (c r : ℕ) → fold (joined n first) (circle n first r) (range_with_len r c) ≡ circle n first (r + c)
   circle_goes_on zero r = ap (circle n first) (omega arith)
   circle_goes_on (suc c) r =
-      ap (λ (s : ℕ). fold (joined n first) s (range_with_len (r + 1) c)) (circle_more r)
+      ap (λ (s : ℕ). fold (joined n first) s (range_with_len (r + 1) c)) (circle_more n first r least most)
       ∙ circle_goes_on c (r + 1) ∙ ap (circle n first) (omega arith)
 
   pub circle_joined : (c : ℕ) → fold (joined n first) 0 (range_with_len 0 c) ≡ circle n first c
-  unfolding circle
-  circle_joined c = circle_goes_on c 0 ∙ ap (circle n first) (zero-add c)
+  circle_joined c =
+      ap (λ (s : ℕ). fold (joined n first) s (range_with_len 0 c)) (sym (circle_none n first))
+      ∙ circle_goes_on c 0 ∙ ap (circle n first) (zero-add c)
 
 module _ (n first : ℕ) (some : 1 ≤ n) where
   circle_below : (c : ℕ) → circle n first c < 2 ^ n

@@ -28,6 +28,9 @@ within_first a b = has_within _ _ (λ i. simp has_and (omega arith))
 pub within_or : (a b : ℕ) → Within a (bit_or a b)
 within_or a b = has_within _ _ (λ i. simp has_or (omega arith))
 
+pub within_less : (a b : ℕ) → Within (less a b) a
+within_less a b = has_within _ _ (λ i. simp has_less (omega arith))
+
 -- two subsets make a subset together
 pub or_within : (a b c : ℕ) → Within a c → Within b c → Within (bit_or a b) c
 or_within a b c h k = has_within _ _ (λ i. simp has_or (omega (arith, within_has a c i h, within_has b c i k)))

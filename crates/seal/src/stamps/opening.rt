@@ -26,13 +26,14 @@ fn supply_of(houses: u8, bytes: usize) -> Result<Supply, Refusal>
     Ok(Supply::share(houses, MOST))
 }
 
-// A key by its number, made ready, and an empty one past the last.
-fn ready(keys: &[[u8; KEY_BYTES]], i: usize) -> PreparedKey
+// A key by its number, made ready, and the empty one past the last.
+fn ready(keys: &[[u8; KEY_BYTES]], i: usize, empty: PreparedKey) -> PreparedKey
+    requires { empty.block ≡ key_block [] }
     ensures { result.block ≡ key_block (slice_index_or keys.now i []) }
 {
     match keys.get(i) {
         Some(key) => PreparedKey::new(key),
-        None => PreparedKey::new(&[]),
+        None => empty,
     }
 }
 
@@ -41,7 +42,9 @@ fn prepare(keys: &[u8]) -> [PreparedKey; MOST_HOUSES]
     ensures { (i : ℕ) → i < most_houses → key_size * i + key_size ≤ length keys.now → slice_index_or (blocks_of result) i [] ≡ key_block (key_at keys.now i) }
 {
     let (keys, _) = keys.as_chunks::<KEY_BYTES>();
-    array::from_fn(|i| ready(keys, i))
+    // Made ready once for all places of no house.
+    let empty = PreparedKey::new(&[]);
+    array::from_fn(|i| ready(keys, i, empty))
 }
 
 impl Stamps {
